@@ -1,2 +1,4 @@
 pub mod Text
 pub mod Number
+pub mod Decimal
+pub mod Leading

@@ -2,12 +2,17 @@
 #![tactic(auto)]
 
 mod bytes;
+mod decimal;
 mod memory;
 mod number;
 mod text;
 
 pub use bytes::Bytes;
+pub use decimal::{NumFault, parse_decimal};
 pub use memory::NoMemory;
 pub use number::{Fixed, Sample, gain, mix, pcm16, to_sample};
 pub use sqlite_items::Items;
 pub use text::{Text, TextFault};
+
+#[cfg(test)]
+mod tests;

@@ -1,0 +1,5 @@
+pub mod Actor
+pub mod Call
+pub mod Ring
+pub mod Entry
+pub mod RecordText

@@ -1,3 +1,5 @@
+use crate::{Actor, Call, Ring};
+
 /// One event of a run. In `Begin` and `End`, `a` is the call and `b` the instance. Elsewhere `a` is the ring, or the
 /// number that the line shows, and `b` is the number of a look, else 0.
 #[derive(Clone, Copy, Debug, PartialEq, Eq)]
@@ -7,6 +9,136 @@ pub struct Entry {
     pub kind: Kind,
     pub a: u32,
     pub b: u32,
+}
+
+impl Entry {
+    ghost use Rattle.std.specs.Prelude.{◌≡◌, ◌<◌, ◌^◌};
+    ghost use Rattle.step_record.specs.Actor.{actor_number};
+    ghost use Rattle.step_record.specs.Ring.{ring_number};
+    ghost use Rattle.step_record.specs.Entry.{entry_of, block_of, done_of, look_of, take_of, send_of, full_of, long_of, begin_of, end_of, stop_of, beat_of, join, late_of, last};
+
+    /// Audio begins a block.
+    pub fn block(block: u32) -> Self
+        ensures { result ≡ block_of block }
+    {
+        Entry::by(Actor::Audio, Kind::Block, block, 0)
+    }
+
+    /// Audio has ended a block.
+    pub fn done(block: u32) -> Self
+        ensures { result ≡ done_of block }
+    {
+        Entry::by(Actor::Audio, Kind::Done, block, 0)
+    }
+
+    /// A look at a ring showed so many messages.
+    pub fn look(actor: Actor, ring: Ring, shown: u32) -> Self
+        requires actor { actor_number actor < 2 ^ 32 }
+        requires ring { ring_number ring < 2 ^ 32 }
+        ensures { result ≡ look_of actor ring shown }
+    {
+        Entry::by(actor, Kind::Look, ring.number(), shown)
+    }
+
+    /// A message was taken from a ring.
+    pub fn take(actor: Actor, ring: Ring) -> Self
+        requires actor { actor_number actor < 2 ^ 32 }
+        requires ring { ring_number ring < 2 ^ 32 }
+        ensures { result ≡ take_of actor ring }
+    {
+        Entry::by(actor, Kind::Take, ring.number(), 0)
+    }
+
+    /// A message was sent on a ring.
+    pub fn send(actor: Actor, ring: Ring) -> Self
+        requires actor { actor_number actor < 2 ^ 32 }
+        requires ring { ring_number ring < 2 ^ 32 }
+        ensures { result ≡ send_of actor ring }
+    {
+        Entry::by(actor, Kind::Send, ring.number(), 0)
+    }
+
+    /// A ring had no room for a message.
+    pub fn full(actor: Actor, ring: Ring) -> Self
+        requires actor { actor_number actor < 2 ^ 32 }
+        requires ring { ring_number ring < 2 ^ 32 }
+        ensures { result ≡ full_of actor ring }
+    {
+        Entry::by(actor, Kind::Full, ring.number(), 0)
+    }
+
+    /// A message was too long for a cell of a ring.
+    pub fn long(actor: Actor, ring: Ring) -> Self
+        requires actor { actor_number actor < 2 ^ 32 }
+        requires ring { ring_number ring < 2 ^ 32 }
+        ensures { result ≡ long_of actor ring }
+    {
+        Entry::by(actor, Kind::Long, ring.number(), 0)
+    }
+
+    /// A call on an instance begins.
+    pub fn begin(actor: Actor, call: Call, inst: u32) -> Self
+        requires { actor_number actor < 2 ^ 32 }
+        ensures { result ≡ begin_of actor call inst }
+    {
+        Entry::by(actor, Kind::Begin, call.number(), inst)
+    }
+
+    /// A call on an instance has ended.
+    pub fn end(actor: Actor, call: Call, inst: u32) -> Self
+        requires { actor_number actor < 2 ^ 32 }
+        ensures { result ≡ end_of actor call inst }
+    {
+        Entry::by(actor, Kind::End, call.number(), inst)
+    }
+
+    /// An actor stops.
+    pub fn stop(actor: Actor) -> Self
+        requires { actor_number actor < 2 ^ 32 }
+        ensures { result ≡ stop_of actor }
+    {
+        Entry::by(actor, Kind::Stop, 0, 0)
+    }
+
+    /// Control saw how far audio is: the number of blocks that have ended, and one more once audio has stopped.
+    pub fn beat(progress: u32) -> Self
+        ensures { result ≡ beat_of progress }
+    {
+        Entry::by(Actor::Control, Kind::Beat, progress, 0)
+    }
+
+    /// All actors but control have stopped.
+    pub fn join() -> Self
+        ensures { result ≡ join }
+    {
+        Entry::by(Actor::Control, Kind::Join, 0, 0)
+    }
+
+    /// An action of the session, counted from 0, wasn't sent.
+    pub fn late(action: u32) -> Self
+        ensures { result ≡ late_of action }
+    {
+        Entry::by(Actor::Control, Kind::Late, action, 0)
+    }
+
+    /// The end of the record.
+    pub fn last() -> Self
+        ensures { result ≡ last }
+    {
+        Entry::by(Actor::Control, Kind::Last, 0, 0)
+    }
+
+    fn by(actor: Actor, kind: Kind, a: u32, b: u32) -> Self
+        requires { actor_number actor < 2 ^ 32 }
+        ensures { result ≡ entry_of actor kind a b }
+    {
+        Entry {
+            actor: actor.number(),
+            kind,
+            a,
+            b,
+        }
+    }
 }
 
 /// What happened.

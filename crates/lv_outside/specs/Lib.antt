@@ -1,0 +1,6 @@
+pub mod Count
+pub mod Counts
+pub mod Files
+pub mod Taken
+pub mod MemoryVault
+pub mod MemorySink
