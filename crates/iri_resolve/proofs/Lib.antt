@@ -1,0 +1,4 @@
+pub mod First
+pub mod Turns
+pub mod Utf8
+pub mod Utf8Target

@@ -1,0 +1,4 @@
+pub mod Excluded
+pub mod Components
+pub mod Dots
+pub mod Target

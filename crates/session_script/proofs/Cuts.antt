@@ -1,0 +1,68 @@
+-- How the words of a line follow from its bytes.
+use Rattle.std.proofs.Common.{◌≡◌, ℕ, suc, ◌+◌, ◌-◌, ◌<◌, ◌≤◌, Bool, true, false, not, cond, eqb, List, [], ◌∷◌, length, take, drop, get_or, refl, sym, ap, subst, Some, None, ◌∙◌, ⊎_elim, arith}
+use Rattle.std.specs.List.{filter, slice_split, position, position_or_len, All}
+use Rattle.std.specs.Option.{unwrap_or}
+use Rattle.std.proofs.lemmas.Bool.Decides.{leb_tells, nat_tests}
+use Rattle.std.proofs.lemmas.Bool.{cases_lt}
+use Rattle.std.proofs.lemmas.List.{drop_more, drop_all, take_all, take_rest, length-take-le}
+use Rattle.std.proofs.lemmas.List.Elements.{All-from_get_or}
+use Rattle.std.proofs.lemmas.List.Splits.{slice_split-cons_yes, slice_split_first, slice_split_none}
+use Rattle.std.proofs.lemmas.List.Sums.{prefix_len_passes, prefix_len_stops, prefix_len-le-length}
+use borrow.Author.Tests.{ne_eqb}
+use Rattle.session_script.specs.Words.{is_blank, is_word, words}
+
+not-true : (b : Bool) → not b ≡ true → b ≡ false
+not-true true h = sym h
+not-true false h = refl
+
+not-false : (b : Bool) → not b ≡ false → b ≡ true
+not-false true h = refl
+not-false false h = sym h
+
+-- a blank adds no word
+pub words-blank : (byte : ℕ) (line : List ℕ) → is_blank byte ≡ true → words (byte ∷ line) ≡ words line
+words-blank byte line h = ap (filter is_word) (slice_split-cons_yes is_blank byte line h)
+
+-- a part with bytes stays
+filter-word : (part : List ℕ) (parts : List (List ℕ)) → 0 < length part → filter is_word (part ∷ parts) ≡ part ∷ filter is_word parts
+filter-word part parts h =
+    ap (λ t. cond t (part ∷ filter is_word parts) (filter is_word parts)) (ap not (ne_eqb (length part) 0 (λ e. omega arith)))
+
+-- a line that begins with a word
+pub words-word : (line : List ℕ) → 0 < position_or_len is_blank line → words line ≡ take (position_or_len is_blank line) line ∷ words (drop (position_or_len is_blank line) line)
+words-word line h =
+    let n : ℕ = position_or_len is_blank line in
+    let within : n ≤ length line = prefix_len-le-length (λ byte. not (is_blank byte)) line in
+    let long : 0 < length (take n line) = omega (arith, length-take-le n line within) in
+    ⊎_elim
+    (λ l. let blank : is_blank (get_or line n 0) ≡ true = not-false _ (prefix_len_stops (λ byte. not (is_blank byte)) line 0 l) in
+    ap (filter is_word) (slice_split_first is_blank line 0 l) ∙ filter-word (take n line) (slice_split is_blank (drop (n + 1) line)) long
+    ∙ ap (λ ws. take n line ∷ ws) (sym (ap words (drop_more line n 0 l) ∙ words-blank (get_or line n 0) (drop (n + 1) line) blank)))
+    (λ l. let none : All (λ byte. is_blank byte ≡ false) line = All-from_get_or (λ byte. is_blank byte ≡ false) line 0
+    (λ i below. not-true _ (prefix_len_passes (λ byte. not (is_blank byte)) line i 0 (omega arith))) in
+    let some : 0 < length line = omega arith in
+    ap (filter is_word) (slice_split_none is_blank line none) ∙ filter-word line [] some
+    ∙ ap (λ w. w ∷ words []) (sym (take_all n line l)) ∙ ap (λ rest. take n line ∷ words rest) (sym (drop_all n line l)))
+    (cases_lt n (length line))
+
+-- the same, as the code cuts the line
+pub words-cut : (line : List ℕ) (n : ℕ) → n ≡ position_or_len is_blank line → 0 < position_or_len is_blank line → words line ≡ take n line ∷ words (take (length line - n) (drop n line))
+words-cut line n e h =
+    let k = position_or_len is_blank line in
+    let P : ℕ → Type 0 = λ m. words line ≡ take m line ∷ words (take (length line - m) (drop m line)) in
+    subst P (sym e) (words-word line h ∙ ap (λ rest. take k line ∷ words rest) (sym (take_rest line k)))
+
+-- the first blank, or the length
+pub word_len : (line : List ℕ) → unwrap_or (position is_blank line) (length line) ≡ position_or_len is_blank line
+word_len line =
+    let within : position_or_len is_blank line ≤ length line = prefix_len-le-length (λ byte. not (is_blank byte)) line in
+    ⊎_elim
+    (λ t. ap (λ b. unwrap_or (cond b (Some (position_or_len is_blank line)) None) (length line)) t.0)
+    (λ t. let same : length line ≡ position_or_len is_blank line = omega (arith, t.1) in ap (λ b. unwrap_or (cond b (Some (position_or_len is_blank line)) None) (length line)) t.0 ∙ same)
+    (leb_tells (suc (position_or_len is_blank line)) (length line))
+
+pub within_line : (line : List ℕ) → position_or_len is_blank line ≤ length line
+within_line line = prefix_len-le-length (λ byte. not (is_blank byte)) line
+
+pub nonempty : (line : List ℕ) (empty : Bool) → empty ≡ eqb (length line) 0 → empty ≡ false → 0 < length line
+nonempty line empty e h = grind (arith, nat_tests)

@@ -1,0 +1,9 @@
+pub mod Cuts
+pub mod Forms
+pub mod Laws
+pub mod Names
+pub mod Numerals
+pub mod Places
+pub mod Pushes
+pub mod Reading
+pub mod Validity
