@@ -1,0 +1,5 @@
+pub mod Apart
+pub mod Words
+pub mod Answers
+pub mod Mapped
+pub mod Lawful

@@ -1,0 +1,7 @@
+pub mod Status
+pub mod World
+pub mod Files
+pub mod Render
+pub mod Words
+pub mod Stock
+pub mod StockSound

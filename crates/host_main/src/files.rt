@@ -1,0 +1,87 @@
+ghost use Rattle.std.specs.Prelude.{◌≡◌, ◌++◌, IfOk};
+
+use crate::refusal::Target;
+use lv_base::{Bytes, NoMemory, Text};
+use lv_outside::{Put, Vault};
+use replay_core::Outcome;
+use std::alloc::Global;
+
+/// A file to be written.
+#[derive(Debug, Drop)]
+pub struct File {
+    pub path: Bytes,
+    pub bytes: Bytes,
+}
+
+/// All that a run writes. It is made before the first write, so that no write is left out for want of memory.
+#[derive(Debug, Drop)]
+pub struct Rendering {
+    pub steps: File,
+    pub sound: File,
+    pub state: File,
+    pub summary: Bytes,
+}
+
+impl Rendering {
+    ghost use Rattle.std.specs.Prelude.{◌≡◌, ◌++◌, IfOk, IfErr, OnOk, IsTrue, codes};
+    ghost use Rattle.lv_outside.specs.Count.{Rose};
+    ghost use Rattle.step_record.specs.RecordText.{record_text};
+    ghost use Rattle.replay_core.specs.StateText.{state_text};
+    ghost use Rattle.host_main.specs.Status.{name_of};
+    ghost use Rattle.host_main.specs.Files.{rendering, IsFile, AreApart, HoldsAll, HoldsBefore};
+
+    /// What a run's outcome is written as, under this name.
+    pub fn of(alloc: Global, name: &Text, outcome: Outcome) -> Result<Self, NoMemory>
+        ensures { IfOk result (λ made. made ≡ rendering name.now outcome.steps outcome.pcm outcome.summary) }
+    {
+        let Outcome {
+            steps,
+            pcm,
+            summary,
+        } = outcome;
+        Ok(Rendering {
+            steps: File {
+                path: path_of(alloc, name, ".rec")?,
+                bytes: step_record::write(alloc, &steps)?,
+            },
+            sound: File {
+                path: path_of(alloc, name, ".pcm")?,
+                bytes: pcm,
+            },
+            state: File {
+                path: path_of(alloc, name, ".ttl")?,
+                bytes: Bytes::from_slice(alloc, replay_core::STATE_TEXT.as_bytes())?,
+            },
+            summary,
+        })
+    }
+
+    /// Writes the three files in order, up to the first that fails.
+    pub fn write<V: Vault>(&self, vault: &mut V) -> Result<(), Target>
+        requires { AreApart self.now }
+        ensures ok { OnOk result (IsTrue (V.tells vault.old) → HoldsAll self.now (V.file vault.old) (V.file vault.new)) }
+        ensures file { IfErr result IsFile }
+        ensures failed { IfErr result (λ _. Rose (V.faults vault.old) (V.faults vault.new)) }
+        ensures err { IfErr result (λ target. IsTrue (V.tells vault.old)
+            → HoldsBefore target self.now (V.file vault.old) (V.file vault.new)) }
+    {
+        if vault.write(self.steps.path.as_slice(), self.steps.bytes.as_slice()) == Put::Failed {
+            return Err(Target::Record);
+        }
+        if vault.write(self.sound.path.as_slice(), self.sound.bytes.as_slice()) == Put::Failed {
+            return Err(Target::Sound);
+        }
+        if vault.write(self.state.path.as_slice(), self.state.bytes.as_slice()) == Put::Failed {
+            return Err(Target::State);
+        }
+        Ok(())
+    }
+}
+
+fn path_of(alloc: Global, name: &Text, ending: &str) -> Result<Bytes, NoMemory>
+    ensures { IfOk result (λ path. path ≡ name.now ++ ending.now) }
+{
+    let mut path = Bytes::from_slice(alloc, name.as_bytes())?;
+    path.push_all(ending.as_bytes())?;
+    Ok(path)
+}

@@ -1,0 +1,59 @@
+ghost use Rattle.std.specs.Prelude.{◌≡◌, ℕ, ◌≤◌, List, length, IfOk, IfErr, IsTrue, Some};
+ghost use Rattle.session_script.specs.Valid.{IsValid};
+ghost use Rattle.host_main.specs.Status.{most_session_bytes};
+ghost use Rattle.host_main.specs.World.{vault_at, LeavesFiles};
+ghost use Rattle.host_main.specs.Render.{IsRead, IsUnread};
+
+use crate::refusal::Refusal;
+use lv_base::{Bytes, Text};
+use lv_outside::{Fetch, Vault};
+use session_script::{ScriptFault, Session};
+use std::alloc::Global;
+
+/// The most bytes of a session: 16 MiB.
+const MOST_SESSION_BYTES: u64 = 16_777_216;
+
+/// Reads the session at a path of the vault.
+pub fn read_session<V: Vault>(alloc: Global, path: &Text, vault: &mut V) -> Result<Session, Refusal>
+    ensures ok { IfOk result (λ s. (bytes : List ℕ)
+        × IsRead path.now (vault_at V.tells V.file V.faults V.absences V.longs vault.old) bytes s) }
+    ensures valid { IfOk result IsValid }
+    ensures err { IfErr result (IsUnread path.now
+        (vault_at V.tells V.file V.faults V.absences V.longs vault.old)
+        (vault_at V.tells V.file V.faults V.absences V.longs vault.new)) }
+    ensures files { LeavesFiles
+        (vault_at V.tells V.file V.faults V.absences V.longs vault.old)
+        (vault_at V.tells V.file V.faults V.absences V.longs vault.new) }
+    ensures known { IsTrue (V.tells vault.old) → IsTrue (V.tells vault.new) }
+    ensures later { V.faults vault.old ≤ V.faults vault.new }
+{
+    let bytes = fetch(alloc, path, vault)?;
+    match session_script::read(alloc, bytes.as_slice()) {
+        Ok(session) => Ok(session),
+        Err(ScriptFault::Later(line)) => Err(Refusal::Script(line)),
+        Err(ScriptFault::NoMemory) => Err(Refusal::NoMemory),
+    }
+}
+
+// The whole file of a session.
+fn fetch<V: Vault>(alloc: Global, path: &Text, vault: &mut V) -> Result<Bytes, Refusal>
+    ensures short { IfOk result (λ bytes. length bytes ≤ most_session_bytes) }
+    ensures ok { IfOk result (λ bytes. IsTrue (V.tells vault.old) → V.file vault.old path.now ≡ Some bytes) }
+    ensures err { IfErr result (IsUnread path.now
+        (vault_at V.tells V.file V.faults V.absences V.longs vault.old)
+        (vault_at V.tells V.file V.faults V.absences V.longs vault.new)) }
+    ensures files { LeavesFiles
+        (vault_at V.tells V.file V.faults V.absences V.longs vault.old)
+        (vault_at V.tells V.file V.faults V.absences V.longs vault.new) }
+    ensures known { IsTrue (V.tells vault.old) → IsTrue (V.tells vault.new) }
+    ensures later { V.faults vault.old ≤ V.faults vault.new }
+{
+    let mut bytes = Bytes::new(alloc);
+    match vault.read(path.as_bytes(), MOST_SESSION_BYTES, &mut bytes) {
+        Fetch::Got => Ok(bytes),
+        Fetch::Absent => Err(Refusal::Missing),
+        Fetch::TooLong => Err(Refusal::TooLong),
+        Fetch::Failed => Err(Refusal::ReadFailed),
+        Fetch::NoMemory => Err(Refusal::NoMemory),
+    }
+}

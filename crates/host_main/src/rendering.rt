@@ -1,0 +1,147 @@
+ghost use Rattle.std.specs.Prelude.{◌≡◌, ℕ, ◌≤◌, ◌<◌, ◌⊎◌, List, [], ◌∷◌, ◌++◌, length, IfOk, IfErr, OnOk, IsTrue, Some, None};
+ghost use Rattle.std.specs.List.{Contains};
+ghost use Rattle.lv_outside.specs.Count.{Rose};
+ghost use Rattle.session_script.specs.declared.session.Session.{Session};
+ghost use Rattle.session_script.specs.Script.{IsSessionOf, IsFirstBroken};
+ghost use Rattle.session_script.specs.Valid.{IsValid};
+ghost use Rattle.host_main.specs.Status.{most_session_bytes};
+ghost use Rattle.replay_core.specs.Play.{meaning_of};
+ghost use Rattle.host_main.specs.World.{vault_at, sink_at, LeavesFiles};
+ghost use Rattle.host_main.specs.Render.{rendering_of, AnswersRender, Explains, IsDone, IsCaused, IsRendered, IsUnrendered, LeavesSink};
+ghost use Rattle.host_main.specs.Files.{AreApart};
+
+use crate::files::Rendering;
+use crate::reading::read_session;
+use crate::refusal::{DONE, Refusal, Target};
+use crate::say::say;
+use lv_base::{Bytes, NoMemory, Text};
+use lv_outside::{Put, Sink, Vault};
+use plug_api::Codes;
+use session_script::Session;
+use std::alloc::Global;
+
+/// Renders the session at a path on one thread: writes `NAME.rec`, `NAME.pcm` and `NAME.ttl` and puts the summary.
+///
+/// It answers 0 where the work was done and every write succeeded. Otherwise it puts the line of the refusal, and answers
+/// its status: 2 the session isn't there, 3 a read failed, 4 a write failed, 7 the first line of the session that breaks
+/// its form, 9 the session is longer than 16 MiB, 14 no memory.
+pub fn run_render<V: Vault, K: Sink, C: Codes>(
+    alloc: Global,
+    session: &Text,
+    name: &Text,
+    vault: &mut V,
+    out: &mut K,
+    codes: &C,
+) -> u8
+    ensures { AnswersRender
+        (meaning_of C.make_of C.Front.activate_of C.Front.run_of C.Front.deactivate_of)
+        session.now name.now
+        (vault_at V.tells V.file V.faults V.absences V.longs vault.old)
+        (vault_at V.tells V.file V.faults V.absences V.longs vault.new)
+        (sink_at K.tells K.taken K.faults out.old) (sink_at K.tells K.taken K.faults out.new) result }
+{
+    answer(alloc, session, name, vault, out, codes)
+}
+
+// The answer, with its cause.
+fn answer<V: Vault, K: Sink, C: Codes>(
+    alloc: Global,
+    session: &Text,
+    name: &Text,
+    vault: &mut V,
+    out: &mut K,
+    codes: &C,
+) -> u8
+    ensures { Explains
+        (meaning_of C.make_of C.Front.activate_of C.Front.run_of C.Front.deactivate_of)
+        session.now name.now
+        (vault_at V.tells V.file V.faults V.absences V.longs vault.old)
+        (vault_at V.tells V.file V.faults V.absences V.longs vault.new)
+        (sink_at K.tells K.taken K.faults out.old) (sink_at K.tells K.taken K.faults out.new) result }
+{
+    match render_to(alloc, session, name, vault, out, codes) {
+        Ok(()) => DONE,
+        Err(refusal) => {
+            say(refusal, session, name, out);
+            refusal.status()
+        }
+    }
+}
+
+fn render_to<V: Vault, K: Sink, C: Codes>(
+    alloc: Global,
+    session: &Text,
+    name: &Text,
+    vault: &mut V,
+    out: &mut K,
+    codes: &C,
+) -> Result<(), Refusal>
+    ensures ok { OnOk result (IsDone
+        (meaning_of C.make_of C.Front.activate_of C.Front.run_of C.Front.deactivate_of)
+        session.now name.now
+        (vault_at V.tells V.file V.faults V.absences V.longs vault.old)
+        (vault_at V.tells V.file V.faults V.absences V.longs vault.new)
+        (sink_at K.tells K.taken K.faults out.old) (sink_at K.tells K.taken K.faults out.new)) }
+    ensures err { IfErr result (IsCaused
+        (meaning_of C.make_of C.Front.activate_of C.Front.run_of C.Front.deactivate_of)
+        session.now name.now
+        (vault_at V.tells V.file V.faults V.absences V.longs vault.old)
+        (vault_at V.tells V.file V.faults V.absences V.longs vault.new)
+        (sink_at K.tells K.taken K.faults out.old) (sink_at K.tells K.taken K.faults out.new)) }
+    ensures quiet { IfErr result (λ refusal. LeavesSink refusal
+        (sink_at K.tells K.taken K.faults out.old) (sink_at K.tells K.taken K.faults out.new)) }
+{
+    let summary = render_files(alloc, session, name, vault, codes)?;
+    match out.put(summary.as_slice()) {
+        Put::Done => Ok(()),
+        Put::Failed => Err(Refusal::WriteFailed(Target::Summary)),
+    }
+}
+
+// Writes the three files, and gives the summary.
+#[tactic(auto, using(crate::proofs::Lawful::lawful))]
+fn render_files<V: Vault, C: Codes>(
+    alloc: Global,
+    path: &Text,
+    name: &Text,
+    vault: &mut V,
+    codes: &C,
+) -> Result<Bytes, Refusal>
+    ensures ok { IfOk result (λ summary. IsRendered
+        (meaning_of C.make_of C.Front.activate_of C.Front.run_of C.Front.deactivate_of)
+        path.now name.now
+        (vault_at V.tells V.file V.faults V.absences V.longs vault.old)
+        (vault_at V.tells V.file V.faults V.absences V.longs vault.new) summary) }
+    ensures err { IfErr result (IsUnrendered
+        (meaning_of C.make_of C.Front.activate_of C.Front.run_of C.Front.deactivate_of)
+        path.now name.now
+        (vault_at V.tells V.file V.faults V.absences V.longs vault.old)
+        (vault_at V.tells V.file V.faults V.absences V.longs vault.new)) }
+{
+    let session = read_session(alloc, path, vault)?;
+    let rendering = rendering_for(alloc, name, &session, codes)?;
+    match rendering.write(vault) {
+        Ok(()) => {
+            let Rendering { summary, .. } = rendering;
+            Ok(summary)
+        }
+        Err(target) => Err(Refusal::WriteFailed(target)),
+    }
+}
+
+// All that the run of a session writes.
+fn rendering_for<C: Codes>(
+    alloc: Global,
+    name: &Text,
+    session: &Session,
+    codes: &C,
+) -> Result<Rendering, NoMemory>
+    requires { IsValid session.now }
+    ensures value { IfOk result (λ made. made ≡ rendering_of
+        (meaning_of C.make_of C.Front.activate_of C.Front.run_of C.Front.deactivate_of)
+        name.now session.now) }
+    ensures apart { IfOk result AreApart }
+{
+    let outcome = replay_core::render(alloc, session, codes)?;
+    Rendering::of(alloc, name, outcome)
+}

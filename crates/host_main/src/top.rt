@@ -1,0 +1,52 @@
+ghost use Rattle.std.specs.Prelude.{◌≡◌, ℕ, List};
+ghost use Rattle.host_main.specs.Status.{usage_line};
+ghost use Rattle.host_main.specs.Words.{IsRender};
+ghost use Rattle.replay_core.specs.Play.{meaning_of};
+ghost use Rattle.host_main.specs.World.{vault_at, sink_at, LeavesFiles, IsSaid};
+ghost use Rattle.host_main.specs.Render.{AnswersRender};
+
+use crate::command::{Command, command_of};
+use crate::refusal::Refusal;
+use crate::rendering::run_render;
+use crate::say::say_usage;
+use lv_base::Text;
+use lv_outside::{Gate, Sink, Vault};
+use plug_api::Codes;
+use std::alloc::Global;
+
+/// Does what the words say, and answers the status that the program ends with.
+///
+/// The words are `render SESSION OUT`, so far: see [`run_render`]. Words of any other form are answered by 1, with the line
+/// that lists the commands. The gate is passed by running threads alone, and no command starts any yet.
+pub fn host_main<V: Vault, K: Sink, C: Codes + Sync, G: Gate + Sync>(
+    alloc: Global,
+    words: &[Text],
+    vault: &mut V,
+    out: &mut K,
+    codes: &C,
+    gate: &G,
+) -> u8
+    ensures render { (session name : List ℕ) → IsRender words.now session name → AnswersRender
+        (meaning_of C.make_of C.Front.activate_of C.Front.run_of C.Front.deactivate_of)
+        session name
+        (vault_at V.tells V.file V.faults V.absences V.longs vault.old)
+        (vault_at V.tells V.file V.faults V.absences V.longs vault.new)
+        (sink_at K.tells K.taken K.faults out.old) (sink_at K.tells K.taken K.faults out.new) result }
+    ensures usage { ((session name : List ℕ) → IsRender words.now session name → ⊥) → result ≡ 1 }
+    ensures usage_said { ((session name : List ℕ) → IsRender words.now session name → ⊥) → IsSaid
+        (sink_at K.tells K.taken K.faults out.old) (sink_at K.tells K.taken K.faults out.new) usage_line }
+    ensures usage_files { ((session name : List ℕ) → IsRender words.now session name → ⊥) → LeavesFiles
+        (vault_at V.tells V.file V.faults V.absences V.longs vault.old)
+        (vault_at V.tells V.file V.faults V.absences V.longs vault.new) }
+{
+    let _gate = gate;
+    match command_of(words) {
+        Some(Command::Render { session, name }) => {
+            run_render(alloc, session, name, vault, out, codes)
+        }
+        None => {
+            say_usage(out);
+            Refusal::Usage.status()
+        }
+    }
+}

@@ -1,0 +1,18 @@
+use Rattle.std.proofs.Common.{length, ap}
+use Rattle.step_record.specs.declared.actor.Actor.TheVariants.{Control}
+use Rattle.step_record.specs.declared.call.Call.TheVariants.{Make}
+use Rattle.replay_core.specs.PlainRecord.{called}
+use Rattle.replay_core.proofs.RunLemmas.{Plays-none, Plays-more}
+use Rattle.replay_core.proofs.run.Run.make_all.Goals as goal
+
+pub loop-inst-init : goal.loop-inst-init
+loop-inst-init g c = record {
+  plays = Plays-none _ _ _ _ c.requires.running;
+  made = ap length c.requires.fresh;
+}
+
+pub loop-inst-preserved : goal.loop-inst-preserved
+loop-inst-preserved g c = record {
+  plays = Plays-more c.loop-inst.inst (called Control Make) c.loop-inst.invariant.plays c.in_ok-make.ensures.plays;
+  made = c.in_ok-make.ensures.one_more;
+}

@@ -1,0 +1,16 @@
+use Rattle.std.proofs.Common.{◌≡◌, length, drop}
+use Rattle.step_record.specs.declared.actor.Actor.TheVariants.{Audio}
+use Rattle.step_record.specs.declared.call.Call.TheVariants.{Run}
+use Rattle.replay_core.specs.Each.{each}
+use Rattle.replay_core.specs.PlainRecord.{called}
+use Rattle.replay_core.specs.Play.{meaning_of, silent_signals}
+use Rattle.replay_core.specs.Run.{Plays}
+use Rattle.replay_core.proofs.run.Run.run_all.Given as goal
+
+-- what was done so far
+abbrev pub invariant-loop-inst : goal.invariant-loop-inst
+invariant-loop-inst g l = record {
+  plays : Plays (meaning_of g.C.Codes.make_of g.C.Front.Front.activate_of g.C.Front.Front.run_of g.C.Front.Front.deactivate_of) g.C.Front.Front.uri_of l.session l.fn.self l.self (each l.inst (called Audio Run));
+  made : length l.self.fronts.items ≡ length l.session.insts;
+  quiet : drop l.inst l.self.desk.outs.blocks ≡ drop l.inst (silent_signals l.session);
+}

@@ -1,0 +1,12 @@
+pub mod Each
+pub mod PlainRecord
+pub mod Signals
+pub mod Pcm
+pub mod Play
+pub mod Summary
+pub mod StateText
+pub mod Threading
+pub mod Outcome
+pub mod Mixer
+pub mod Desk
+pub mod Run

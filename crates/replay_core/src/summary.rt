@@ -1,0 +1,99 @@
+ghost use Rattle.std.specs.Prelude.{◌≡◌, ◌≤◌, ◌<◌, ◌*◌, ◌++◌, ◌^◌, length, IfOk, OnOk};
+ghost use Rattle.replay_core.specs.Summary.{counted, inst_line, inst_lines, size_line, last_lines, summary_of};
+
+use crate::count::{ended, events, refused, sent};
+use itoa::Buffer;
+use lv_base::{Bytes, NoMemory, Text};
+use session_script::Session;
+use std::alloc::Global;
+use step_record::{Call, Entry, Record, Ring};
+
+/// The summary of a run, for people.
+pub(crate) fn summary(alloc: Global, session: &Session, steps: &Record) -> Result<Bytes, NoMemory>
+    requires insts { length session.now.insts ≤ 32 }
+    requires size { session.now.block * session.now.blocks < 2 ^ 32 }
+    ensures { IfOk result (λ text. text ≡ summary_of session.now steps.now) }
+{
+    let mut text = Bytes::from_slice(alloc, "lv2fx render\n".as_bytes())?;
+    push_size(&mut text, session)?;
+    push_insts(&mut text, session, steps.entries())?;
+    push_last(&mut text, events(steps.entries()))?;
+    Ok(text)
+}
+
+fn push_size(text: &mut Bytes, session: &Session) -> Result<(), NoMemory>
+    requires { session.now.block * session.now.blocks < 2 ^ 32 }
+    ensures { OnOk result (text.new ≡ text.old ++ size_line session.now) }
+{
+    let frames = session.block * session.blocks;
+    push_count(text, "frames ", frames as usize)?;
+    push_count(text, " channels ", session.outs.len())?;
+    push(text, "\n")
+}
+
+fn push_insts(text: &mut Bytes, session: &Session, steps: &[Entry]) -> Result<(), NoMemory>
+    requires { length session.now.insts ≤ 32 }
+    ensures { OnOk result (text.new ≡ text.old ++ inst_lines session.now steps.now) }
+{
+    for i in 0..session.insts.len() {
+        let inst = &session.insts.as_slice()[i];
+        push_inst(text, &inst.name, i as u32, steps)?;
+    }
+    Ok(())
+}
+
+fn push_inst(text: &mut Bytes, name: &Text, inst: u32, steps: &[Entry]) -> Result<(), NoMemory>
+    requires { inst < 32 }
+    ensures { OnOk result (text.new ≡ text.old ++ inst_line name.now inst steps.now) }
+{
+    push(text, "inst ")?;
+    push(text, name.as_str())?;
+    push_count(text, " runs ", ended(steps, Call::Run, inst))?;
+    push_count(
+        text,
+        " jobs ",
+        sent(steps, Ring::Jobs(inst), Ring::LocalJobs(inst)),
+    )?;
+    push_count(
+        text,
+        " refused ",
+        refused(steps, Ring::Jobs(inst), Ring::LocalJobs(inst)),
+    )?;
+    push_count(text, " worked ", ended(steps, Call::Work, inst))?;
+    push_count(
+        text,
+        " responses ",
+        sent(steps, Ring::Responses(inst), Ring::Responses(inst)),
+    )?;
+    push_count(
+        text,
+        " dropped ",
+        refused(steps, Ring::Responses(inst), Ring::Responses(inst)),
+    )?;
+    push_count(text, " delivered ", ended(steps, Call::Response, inst))?;
+    push(text, " errors 0\n")
+}
+
+fn push_last(text: &mut Bytes, entries: usize) -> Result<(), NoMemory>
+    ensures { OnOk result (text.new ≡ text.old ++ last_lines entries) }
+{
+    push(text, "saves 0\n")?;
+    push(text, "late 0\n")?;
+    push(text, "lost 0\n")?;
+    push_count(text, "entries ", entries)?;
+    push(text, "\n")
+}
+
+fn push_count(text: &mut Bytes, name: &str, count: usize) -> Result<(), NoMemory>
+    ensures { OnOk result (text.new ≡ text.old ++ counted name.now count) }
+{
+    let mut buffer = Buffer::new();
+    push(text, name)?;
+    push(text, buffer.format(count))
+}
+
+fn push(text: &mut Bytes, words: &str) -> Result<(), NoMemory>
+    ensures { OnOk result (text.new ≡ text.old ++ words.now) }
+{
+    text.push_all(words.as_bytes())
+}

@@ -1,0 +1,4 @@
+pub mod Candidates
+pub mod Index
+pub mod Picked
+pub mod Triples

@@ -1,0 +1,18 @@
+//! The triples of an RDF graph, each once, in the order in which they were added.
+#![tactic(auto)]
+
+mod candidates;
+mod fault;
+mod hashing;
+mod matching;
+mod store;
+mod subjects;
+mod term;
+
+pub use fault::{MOST_ROWS, StoreFault};
+pub use matching::Matching;
+pub use store::Store;
+pub use term::{Term, Triple};
+
+#[cfg(test)]
+mod tests;

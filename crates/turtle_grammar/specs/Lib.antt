@@ -1,0 +1,4 @@
+pub mod Pattern
+pub mod Characters
+pub mod Terminals
+pub mod Tokens
