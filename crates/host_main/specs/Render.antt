@@ -1,5 +1,5 @@
 -- What `render SESSION NAME` does, and why it may not do it.
-use Rattle.std.specs.Prelude.{◌≡◌, ◌≢◌, ℕ, ◌<◌, ◌≤◌, ◌⊎◌, IsTrue, List, [], ◌∷◌, ◌++◌, codes, length, Option, Some, None, Result, Ok, Err}
+use Rattle.std.specs.Prelude.{◌≡◌, ◌≢◌, ℕ, ◌<◌, ◌≤◌, ◌⊎◌, IsTrue, List, [], ◌∷◌, ◌++◌, length, Some, None}
 use Rattle.lv_outside.specs.Count.{Rose}
 use Rattle.session_script.specs.declared.session.Session.{Session}
 use Rattle.session_script.specs.Script.{IsSessionOf, IsFirstBroken}
@@ -15,7 +15,7 @@ use Rattle.host_main.specs.declared.files.Rendering.{Rendering}
 use Rattle.host_main.specs.declared.refusal.Refusal.{Refusal}
 use Rattle.host_main.specs.declared.refusal.Refusal.TheVariants.{Usage, Missing, ReadFailed, WriteFailed, Script, TooLong, NoMemory}
 use Rattle.host_main.specs.declared.refusal.Target.{Target}
-use Rattle.host_main.specs.declared.refusal.Target.TheVariants.{Record, Sound, State, Summary}
+use Rattle.host_main.specs.declared.refusal.Target.TheVariants.{Summary}
 
 -- A session's record is the plain one, and the sound is that of the play of this very record.
 abbrev pub rendering_of : {F : Type 0} → Meaning F → List ℕ → Session → Rendering

@@ -1,5 +1,5 @@
 -- What is known of the vault and of the sink, before a call and after it.
-use Rattle.std.specs.Prelude.{◌≡◌, ℕ, ◌≤◌, Bool, IsTrue, List, ◌++◌, Option}
+use Rattle.std.specs.Prelude.{◌≡◌, ℕ, Bool, IsTrue, List, ◌++◌, Option}
 use Rattle.lv_outside.specs.Count.{Rose}
 
 -- a vault at a moment: whether its contents are known, what they are, and its counts of faults, absences and files too long

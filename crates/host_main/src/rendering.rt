@@ -99,7 +99,6 @@ fn render_to<V: Vault, K: Sink, C: Codes>(
 }
 
 // Writes the three files, and gives the summary.
-#[tactic(auto, using(crate::proofs::Lawful::lawful))]
 fn render_files<V: Vault, C: Codes>(
     alloc: Global,
     path: &Text,
