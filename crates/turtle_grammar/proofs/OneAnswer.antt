@@ -1,10 +1,10 @@
 -- No text has two answers.
-use Rattle.std.proofs.Common.{◌≡◌, ◌⊎◌, inl, inr, ⊎_elim, ℕ, zero, suc, ◌≤◌, ◌<◌, ◌+◌, Bool, true, false, Option, Some, None, MatchOption, List, [], ◌∷◌, ◌++◌, length, take, drop, refl, sym, ap, ◌∙◌, subst, append_assoc, arith}
+use Rattle.std.proofs.Common.{◌≡◌, ◌⊎◌, ⊎_elim, ℕ, zero, suc, ◌<◌, ◌+◌, false, Option, Some, None, MatchOption, List, [], ◌∷◌, ◌++◌, length, take, drop, refl, sym, ap, ◌∙◌, subst, append_assoc, arith}
 use Rattle.std.proofs.lemmas.List.{take-append-drop, take-take}
 use Rattle.std.specs.Str.{chars}
 use Rattle.turtle_grammar.specs.Pattern.{Pattern, Matches, matches}
-use Rattle.turtle_grammar.specs.Terminals.{pattern, gap, iriref, short_string, long_string, integer, decimal, double, pname_ns, pname_ln, blank_label, langtag}
-use Rattle.turtle_grammar.specs.Tokens.{IsLongest, HasNone, Begins, Found, opened, FindsOpened, FindsPlain, Finds, bytes_of, Answer, IsAnswer, IsNext, IsLast, Lexes, HasOneAnswer, HasOneReading}
+use Rattle.turtle_grammar.specs.Terminals.{pattern, iriref, short_string, long_string, integer, decimal, double, pname_ns, pname_ln, blank_label, langtag}
+use Rattle.turtle_grammar.specs.Tokens.{Begins, Found, opened, FindsOpened, FindsPlain, Finds, bytes_of, Answer, IsAnswer, IsLast, Lexes, HasOneAnswer, HasOneReading}
 use Rattle.turtle_grammar.specs.Tokens.Found.{token, unclosed, bad}
 use Rattle.turtle_grammar.specs.Tokens.Answer.{next, end, is_unclosed, is_bad}
 use Rattle.turtle_grammar.specs.declared.token.TokenKind.{TokenKind}

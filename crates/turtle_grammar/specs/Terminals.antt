@@ -1,7 +1,7 @@
 -- The terminals of W3C Turtle 1.1, by their numbers there.
-use Rattle.std.specs.Prelude.{ℕ, Bool, not, ◌==◌, ◌&&◌, ◌||◌, nat_le, List, [], ◌∷◌, codes}
+use Rattle.std.specs.Prelude.{ℕ, Bool, not, ◌==◌, ◌&&◌, List, [], ◌∷◌, codes}
 use Rattle.std.specs.Char.{to_ascii_lowercase}
-use Rattle.turtle_grammar.specs.Pattern.{Pattern, fails, nothing, one, ◌then◌, ◌or◌, many, maybe, some, times, char, word}
+use Rattle.turtle_grammar.specs.Pattern.{Pattern, nothing, one, ◌then◌, ◌or◌, many, maybe, some, times, char, word}
 use Rattle.turtle_grammar.specs.Characters.{within, among, is_white, is_line_end, is_digit, is_letter, is_letter_or_digit, is_hex, is_sign, is_exponent, is_excluded, is_escape, is_name_base, is_name_start, is_name_char, is_local_escape}
 use Rattle.turtle_grammar.specs.declared.token.TokenKind.{TokenKind}
 use Rattle.turtle_grammar.specs.declared.token.TokenKind.TheVariants.{Iri, Namespace, PrefixedName, BlankLabel, LanguageTag, Integer, Decimal, Double, String, SingleString, LongSingleString, LongString, Dot, Comma, Semicolon, OpenSquare, CloseSquare, OpenRound, CloseRound, DoubleCaret, A, True, False, Prefix, Base}

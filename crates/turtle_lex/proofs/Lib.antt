@@ -1,0 +1,15 @@
+pub mod Cursor
+pub mod Opened
+pub mod Inside
+pub mod Codes
+pub mod Bodies
+pub mod Longest
+pub mod Picked
+pub mod NumberSteps
+pub mod TagSteps
+pub mod Apart
+pub mod NameSteps
+pub mod LocalSteps
+pub mod Starts
+pub mod Merge
+pub mod Assembly

@@ -1,0 +1,12 @@
+pub mod Places
+pub mod Scans
+pub mod Enclosure
+pub mod Digits
+pub mod Picks
+pub mod Run
+pub mod Numbers
+pub mod Tags
+pub mod Names
+pub mod Kinds
+pub mod Reading
+pub mod Found

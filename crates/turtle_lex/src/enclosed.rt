@@ -1,0 +1,70 @@
+ghost use Rattle.std.specs.Prelude.{◌<◌, IfOk};
+ghost use Rattle.turtle_grammar.specs.Pattern.{nothing};
+ghost use Rattle.turtle_lex.specs.Enclosure.{piece, body, long_body};
+ghost use Rattle.turtle_lex.specs.Places.{IsPlace, Reads};
+ghost use Rattle.turtle_lex.specs.Scans.{Leads, LeadsInside};
+
+use crate::characters::char_at;
+use crate::enclosure::Enclosure;
+use crate::escape::escape_end;
+use crate::stop::Stop;
+
+/// Over the character `c` at `at`, behind which `next` is, or over the escape that it begins.
+fn piece_end(
+    text: &str,
+    at: usize,
+    c: char,
+    next: usize,
+    enclosure: Enclosure,
+) -> Result<usize, Stop>
+    requires place { IsPlace text.now at }
+    requires reads { Reads text.now at c next }
+    ensures place { IfOk result (IsPlace text.now) }
+    ensures further { IfOk result (λ upto. at < upto) }
+    ensures inside { LeadsInside (piece enclosure) text.now at result }
+{
+    if enclosure.is_plain(c) {
+        Ok(next)
+    } else if c == '\\' {
+        escape_end(text, next, enclosure)
+    } else {
+        Err(Stop::Bad(at))
+    }
+}
+
+/// From behind the opening of an IRI or a short string to behind its close.
+pub fn body_end(text: &str, from: usize, enclosure: Enclosure) -> Result<usize, Stop>
+    requires { IsPlace text.now from }
+    ensures { Leads (body enclosure) nothing text.now from result }
+{
+    let mut at = from;
+    while let Some((c, next)) = char_at(text, at) {
+        if c == enclosure.closing() {
+            return Ok(next);
+        }
+        at = piece_end(text, at, c, next, enclosure)?;
+    }
+    Err(Stop::Unclosed)
+}
+
+/// From behind the opening of a long string to behind its close.
+pub fn long_body_end(text: &str, from: usize, enclosure: Enclosure) -> Result<usize, Stop>
+    requires { IsPlace text.now from }
+    ensures { Leads (long_body enclosure 0) nothing text.now from result }
+{
+    let mut at = from;
+    let mut quotes = 0usize;
+    while let Some((c, next)) = char_at(text, at) {
+        if c == enclosure.closing() {
+            if quotes == 2 {
+                return Ok(next);
+            }
+            quotes += 1;
+            at = next;
+        } else {
+            at = piece_end(text, at, c, next, enclosure)?;
+            quotes = 0;
+        }
+    }
+    Err(Stop::Unclosed)
+}

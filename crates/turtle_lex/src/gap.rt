@@ -1,0 +1,39 @@
+ghost use Rattle.std.specs.Prelude.{false};
+ghost use Rattle.turtle_lex.specs.Tags.{gap_state, GapSteps};
+ghost use Rattle.turtle_lex.specs.Picks.{PicksAt};
+ghost use Rattle.turtle_lex.specs.Places.{IsPlace};
+
+use crate::characters::{char_at, is_line_end, is_white};
+use turtle_grammar::TokenKind;
+
+/// Whether a comment is open behind the character, or none where the gap ends before it.
+fn gap_step(c: char, in_comment: bool) -> Option<bool>
+    ensures { GapSteps c in_comment result }
+{
+    if in_comment {
+        Some(!is_line_end(c))
+    } else if c == '#' {
+        Some(true)
+    } else if is_white(c) {
+        Some(false)
+    } else {
+        None
+    }
+}
+
+/// The end of the white space and comments that begin at a place.
+pub fn gap_end(text: &str, from: usize) -> usize
+    requires { IsPlace text.now from }
+    ensures { PicksAt (gap_state false) text.now from (Some (TokenKind.Dot, result)) }
+{
+    let mut at = from;
+    let mut in_comment = false;
+    while let Some((c, next)) = char_at(text, at) {
+        match gap_step(c, in_comment) {
+            None => return at,
+            Some(inside) => in_comment = inside,
+        }
+        at = next;
+    }
+    at
+}

@@ -1,0 +1,47 @@
+ghost use Rattle.turtle_lex.specs.Names.{label_start, IsNameEnd};
+ghost use Rattle.turtle_lex.specs.Picks.{PicksAt};
+ghost use Rattle.turtle_lex.specs.Places.{IsPlace};
+
+use crate::characters::{char_at, is_digit, is_name_char, is_name_start};
+use turtle_grammar::TokenKind;
+
+/// Where a prefix or a label ends, from behind its first character: not behind a dot.
+pub fn name_end(text: &str, from: usize) -> usize
+    requires { IsPlace text.now from }
+    ensures { IsNameEnd text.now from result }
+{
+    let mut last = from;
+    let mut at = from;
+    while let Some((c, next)) = char_at(text, at) {
+        if is_name_char(c) {
+            last = next;
+            at = next;
+        } else if c == '.' {
+            at = next;
+        } else {
+            return last;
+        }
+    }
+    last
+}
+
+/// A blank node's label, from behind its `_:`.
+pub fn label_at(text: &str, at: usize) -> Option<(TokenKind, usize)>
+    requires { IsPlace text.now at }
+    ensures { PicksAt label_start text.now at result }
+{
+    match char_at(text, at) {
+        None => None,
+        Some((c, next)) => {
+            if is_name_start(c) {
+                let end = name_end(text, next);
+                Some((TokenKind::BlankLabel, end))
+            } else if is_digit(c) {
+                let end = name_end(text, next);
+                Some((TokenKind::BlankLabel, end))
+            } else {
+                None
+            }
+        }
+    }
+}
