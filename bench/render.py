@@ -2,9 +2,9 @@
 """How many samples a second `lv2fx render` gives, beside a plain C loop that does the same work.
 
 Run it anywhere, after the program was built: bench/render.py [RUNS]
-A constant goes through 1, 8 and 31 amplifiers, at blocks of 64 and 512 frames, 1,024 blocks. Each row is the best of RUNS
-runs (5 if not given). 'all' is the whole process by the wall clock, with its start and the writing of the files; 'own' is
-the processor time that the process spent outside the system, so without the writing. The C loop (gcc -O2) computes a
+A constant goes through 1, 8 and 31 amplifiers, at blocks of 64 and 512 frames, 1,024 blocks. 'all' is the whole process by
+the wall clock, with its start and the writing of the files, the best of RUNS runs (20 if not given); 'own' is the processor
+time that the process spent outside the system, so without the writing, the mean of the runs. The C loop (gcc -O2) computes a
 constant, the gains, 16 bits, and writes the same file; it is left out where gcc isn't installed. A sample is one frame of
 one channel, however many amplifiers it went through.
 """
@@ -49,19 +49,19 @@ def session(amps, block):
 
 
 def best(words, folder, runs):
-    """The least wall time and the least time outside the system, in seconds."""
-    walls, owns = [], []
+    """The least wall time, and the mean time outside the system, in seconds."""
+    walls = []
+    before = resource.getrusage(resource.RUSAGE_CHILDREN).ru_utime
     for _ in range(runs):
-        before = resource.getrusage(resource.RUSAGE_CHILDREN).ru_utime
         start = time.perf_counter()
         subprocess.run(words, cwd=folder, check=True, stdout=subprocess.DEVNULL)
         walls.append(time.perf_counter() - start)
-        owns.append(resource.getrusage(resource.RUSAGE_CHILDREN).ru_utime - before)
-    return min(walls), max(min(owns), 1e-6)
+    own = resource.getrusage(resource.RUSAGE_CHILDREN).ru_utime - before
+    return min(walls), max(own / runs, 1e-6)
 
 
 def main():
-    runs = int(sys.argv[1]) if len(sys.argv) > 1 else 5
+    runs = int(sys.argv[1]) if len(sys.argv) > 1 else 20
     if not os.path.exists(PROGRAM):
         sys.exit('bench: the program is not built; `./lv2fx` builds it')
     gcc = shutil.which('gcc')
