@@ -23,11 +23,8 @@ pub struct Rendering {
 }
 
 impl Rendering {
-    ghost use Rattle.std.specs.Prelude.{◌≡◌, ◌++◌, IfOk, IfErr, OnOk, IsTrue, codes};
+    ghost use Rattle.std.specs.Prelude.{◌≡◌, ◌++◌, IfOk, IfErr, OnOk, IsTrue};
     ghost use Rattle.lv_outside.specs.Count.{Rose};
-    ghost use Rattle.step_record.specs.RecordText.{record_text};
-    ghost use Rattle.replay_core.specs.StateText.{state_text};
-    ghost use Rattle.host_main.specs.Status.{name_of};
     ghost use Rattle.host_main.specs.Files.{rendering, IsFile, AreApart, HoldsAll, HoldsBefore};
 
     /// What a run's outcome is written as, under this name.

@@ -1,12 +1,8 @@
-ghost use Rattle.std.specs.Prelude.{◌≡◌, ℕ, ◌≤◌, ◌<◌, ◌⊎◌, List, [], ◌∷◌, ◌++◌, length, IfOk, IfErr, OnOk, IsTrue, Some, None};
-ghost use Rattle.std.specs.List.{Contains};
-ghost use Rattle.lv_outside.specs.Count.{Rose};
+ghost use Rattle.std.specs.Prelude.{◌≡◌, ◌<◌, IfOk, IfErr, OnOk};
 ghost use Rattle.session_script.specs.declared.session.Session.{Session};
-ghost use Rattle.session_script.specs.Script.{IsSessionOf, IsFirstBroken};
 ghost use Rattle.session_script.specs.Valid.{IsValid};
-ghost use Rattle.host_main.specs.Status.{most_session_bytes};
 ghost use Rattle.replay_core.specs.Play.{meaning_of};
-ghost use Rattle.host_main.specs.World.{vault_at, sink_at, LeavesFiles};
+ghost use Rattle.host_main.specs.World.{vault_at, sink_at};
 ghost use Rattle.host_main.specs.Render.{rendering_of, AnswersRender, Explains, IsDone, IsCaused, IsRendered, IsUnrendered, LeavesSink};
 ghost use Rattle.host_main.specs.Files.{AreApart};
 

@@ -1,5 +1,3 @@
-ghost use Rattle.std.specs.Prelude.{◌≡◌};
-
 use lv_base::{NoMemory, Text};
 use plug_api::{Codes, Front, Ports};
 use std::alloc::Global;
