@@ -1,0 +1,3 @@
+pub mod Iri
+pub mod Numbers
+pub mod Table
