@@ -1,5 +1,10 @@
 pub mod SameTerm
 pub mod Changes
-pub mod Places
+pub mod Passing
+pub mod Rows
+pub mod Chained
+pub mod Indexed
+pub mod Links
+pub mod Walk
 pub mod Blanks
 pub mod Kept

@@ -1,4 +1,4 @@
 pub mod Candidates
+pub mod Chain
 pub mod Index
-pub mod Picked
 pub mod Triples

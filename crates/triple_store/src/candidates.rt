@@ -1,45 +1,61 @@
-ghost use Rattle.std.specs.Prelude.{◌≡◌, ◌<◌, ◌∷◌, [], All, length, MatchOption};
-ghost use Rattle.triple_store.specs.Picked.{picked};
+ghost use Rattle.std.specs.Prelude.{◌≡◌, ◌≢◌, ◌<◌, ◌∷◌, [], length, slice_get, Some, MatchOption};
+ghost use Rattle.triple_store.specs.Chain.{rows_left, IsChain};
 ghost use Rattle.triple_store.specs.Candidates.{candidates_of};
 
 use crate::Triple;
+use crate::subjects::Ends;
 use std::marker::Model;
 
-/// The rows at some places, in the order of the places. Contracts see the list of these rows.
+/// The rows of one subject, along their chain. Contracts see the list of those that are left.
 #[derive(Drop)]
-pub struct Picked<'a> {
+pub struct Chain<'a> {
     rows: &'a [Triple],
-    places: &'a [u32],
+    next: &'a [u32],
+    left: Option<Ends>,
 }
 
-impl<'a> Model for Picked<'a> {
-    ghost use Rattle.std.specs.Prelude.{List, All, length, ◌<◌};
-    ghost use Rattle.triple_store.specs.Picked.{picked};
+impl<'a> Model for Chain<'a> {
+    ghost use Rattle.std.specs.Prelude.{List};
+    ghost use Rattle.triple_store.specs.Chain.{rows_left, IsChain};
     ghost use Rattle.triple_store.specs.declared.term.Triple.{Triple};
 
     ghost Value = { List Triple };
 
-    ghost view = { λ p. picked p.rows.now p.places.now };
+    ghost view = { λ c. rows_left c.rows.now c.left };
 
-    ghost invariant = { λ p. All (λ place. place < length p.rows.now) p.places.now };
+    ghost invariant = { λ c. IsChain c.rows.now c.next.now c.left };
 }
 
-impl<'a> Picked<'a> {
-    pub(crate) fn new(rows: &'a [Triple], places: &'a [u32]) -> Self
-        requires { All (λ place. place < length rows.now) places.now }
-        ensures { result ≡ picked rows.now places.now }
+impl<'a> Chain<'a> {
+    pub(crate) fn new(rows: &'a [Triple], next: &'a [u32], left: Option<Ends>) -> Self
+        requires { IsChain rows.now next.now left }
+        ensures { result ≡ rows_left rows.now left }
     {
-        Picked { rows, places }
+        Chain { rows, next, left }
     }
 
     fn next(&mut self) -> Option<&'a Triple>
         ensures { MatchOption result ((self.old ≡ []) × (self.new ≡ [])) (λ row. self.old ≡ row.now ∷ self.new) }
     {
-        let (place, rest) = self.places.split_first()?;
-        let row = &self.rows[*place as usize];
-        self.places = rest;
+        let ends = self.left?;
+        let row = &self.rows[ends.first as usize];
+        self.left = after(self.next, ends);
         Some(row)
     }
+}
+
+// What is left of a chain after its first row.
+fn after(next: &[u32], ends: Ends) -> Option<Ends>
+    requires { ends.first < length next.now }
+    ensures { MatchOption result (ends.first ≡ ends.last) (λ left. (ends.first ≢ ends.last) × (slice_get next.now ends.first ≡ Some left.first) × (left.last ≡ ends.last)) }
+{
+    if ends.first == ends.last {
+        return None;
+    }
+    Some(Ends {
+        first: next[ends.first as usize],
+        last: ends.last,
+    })
 }
 
 /// Where the rows of a pattern are looked for.
@@ -48,7 +64,7 @@ pub enum Candidates<'a> {
     /// In all rows.
     All(&'a [Triple]),
     /// In those of a subject.
-    Picked(Picked<'a>),
+    OfSubject(Chain<'a>),
 }
 
 impl<'a> Candidates<'a> {
@@ -61,7 +77,7 @@ impl<'a> Candidates<'a> {
                 *rows = rest;
                 Some(first)
             }
-            Candidates::Picked(picked) => picked.next(),
+            Candidates::OfSubject(chain) => chain.next(),
         }
     }
 }

@@ -3,7 +3,6 @@
 
 mod candidates;
 mod fault;
-mod hashing;
 mod matching;
 mod store;
 mod subjects;

@@ -1,14 +1,15 @@
-ghost use Rattle.std.specs.Prelude.{◌≡◌, ◌↔◌, ◌≤◌, ◌^◌, ◌∷◌, ◌++◌, [], take, length, filter, Contains, IsTrue, IfOk, OnOk, OnErr, IsErrOf, Ok, false};
+ghost use Rattle.std.specs.Prelude.{◌≡◌, ◌↔◌, ◌≤◌, ◌-◌, ◌^◌, ◌∷◌, ◌++◌, [], take, length, filter, Contains, IsTrue, IfOk, OnOk, OnErr, IsErrOf, Ok, false};
 ghost use Rattle.std.specs.Option.{option_copied};
 ghost use Rattle.triple_store.specs.Triples.{blanks_of, blanks_of_triple, Adds, agrees};
-ghost use Rattle.triple_store.specs.Index.{AddsPlace, KeepsPlaces, AreIndexed};
+ghost use Rattle.triple_store.specs.Index.{AreIndexed};
+ghost use Rattle.triple_store.specs.declared.fault.TheConstants.{MOST_ROWS};
 
-use crate::candidates::{Candidates, Picked};
-use crate::hashing::SeededHash;
+use crate::candidates::{Candidates, Chain};
 use crate::subjects::Subjects;
 use crate::{MOST_ROWS, Matching, StoreFault, Term, Triple, term};
 use indexmap::IndexSet;
 use lv_base::NoMemory;
+use seeded_hash::SeededHash;
 use std::alloc::Global;
 use std::marker::Model;
 
@@ -66,6 +67,14 @@ impl Store {
         self.rows.as_slice()
     }
 
+    /// The number of rows.
+    pub fn count(&self) -> u32
+        ensures value { result ≡ length self.now }
+        ensures few { result ≤ MOST_ROWS }
+    {
+        self.rows.len() as u32
+    }
+
     /// One above the greatest blank number of the rows, 0 without one.
     pub fn blanks(&self) -> u32
         ensures { result ≡ blanks_of self.now }
@@ -96,14 +105,8 @@ impl Store {
         if !insert(&mut self.rows, triple)? {
             return Ok(false);
         }
-        let row = &self.rows.as_slice()[place];
-        if let Err(NoMemory) = keep(
-            &mut self.blanks,
-            &mut self.subjects,
-            row,
-            place as u32,
-            blanks,
-        ) {
+        let rows = self.rows.as_slice();
+        if let Err(NoMemory) = keep(&mut self.blanks, &mut self.subjects, rows, blanks) {
             self.rows.truncate(place);
             return Err(StoreFault::NoMemory);
         }
@@ -124,8 +127,9 @@ impl Store {
         match s {
             None => Matching::new(Candidates::All(rows), p, o),
             Some(subject) => {
-                let picked = Picked::new(rows, self.subjects.places(subject));
-                Matching::new(Candidates::Picked(picked), p, o)
+                let left = self.subjects.ends(subject);
+                let chain = Chain::new(rows, self.subjects.next.as_slice(), left);
+                Matching::new(Candidates::OfSubject(chain), p, o)
             }
         }
     }
@@ -155,28 +159,27 @@ fn insert(rows: &mut Rows, triple: Triple) -> Result<bool, NoMemory>
     Ok(is_new)
 }
 
-// Keeps what belongs to a new row. A refusal leaves all as before.
+// Keeps what belongs to the last of these rows. A refusal leaves all as before.
 fn keep(
     blanks: &mut Vec<u32>,
     subjects: &mut Subjects,
-    row: &Triple,
-    place: u32,
+    rows: &[Triple],
     most: u32,
 ) -> Result<(), NoMemory>
+    requires few { length rows.now ≤ MOST_ROWS }
+    requires indexed { AreIndexed subjects.old (take (length rows.now - 1) rows.now) }
     ensures blanks { OnOk result (blanks.new.items ≡ blanks.old.items ++ most ∷ []) }
-    ensures subjects { OnOk result (AddsPlace subjects.old row.now.s place subjects.new) }
+    ensures subjects { OnOk result (AreIndexed subjects.new rows.now) }
     ensures same_blanks { OnErr result (blanks.new.items ≡ blanks.old.items) }
-    ensures same_subjects { OnErr result (KeepsPlaces subjects.old subjects.new) }
+    ensures same_subjects { OnErr result (AreIndexed subjects.new (take (length rows.now - 1) rows.now)) }
 {
-    blanks.push(most)?;
-    if let Err(NoMemory) = subjects.add(&row.s, place) {
-        blanks.pop();
-        return Err(NoMemory);
-    }
+    blanks.reserve(1)?;
+    subjects.add(rows)?;
+    blanks.push_reserved(most);
     Ok(())
 }
 
-// Drops the places of the rows from `keep` on.
+// Drops the rows from `keep` on.
 fn drop_from(subjects: &mut Subjects, rows: &[Triple], keep: usize)
     requires within { keep ≤ length rows.now }
     requires indexed { AreIndexed subjects.old rows.now }
@@ -184,7 +187,7 @@ fn drop_from(subjects: &mut Subjects, rows: &[Triple], keep: usize)
 {
     let mut left = rows.len();
     while left > keep {
+        subjects.drop_last(&rows[..left]);
         left -= 1;
-        subjects.drop_last(&rows[left].s);
     }
 }

@@ -1,61 +1,97 @@
-ghost use Rattle.std.specs.Prelude.{◌≡◌, [], OnOk, OnErr};
-ghost use Rattle.triple_store.specs.Index.{places_of, AddsPlace, DropsPlace, KeepsPlaces};
+ghost use Rattle.std.specs.Prelude.{◌≡◌, ◌≤◌, ◌-◌, [], take, length, OnOk, OnErr};
+ghost use Rattle.triple_store.specs.Index.{AreIndexed, ends_of};
+ghost use Rattle.triple_store.specs.declared.fault.TheConstants.{MOST_ROWS};
 
-use crate::Term;
-use crate::hashing::SeededHash;
+use crate::{Term, Triple};
 use indexmap::IndexMap;
-use lv_base::{Items, NoMemory};
+use lv_base::NoMemory;
+use seeded_hash::SeededHash;
 use std::alloc::Global;
 
-/// For each subject the places of its rows, in rising order.
+/// The places of a subject's first and last row.
+#[derive(Clone, Copy)]
+pub struct Ends {
+    pub(crate) first: u32,
+    pub(crate) last: u32,
+}
+
+/// For each subject the chain of its rows. A list for each subject would take more memory where subjects have few rows.
 #[derive(Drop)]
 pub struct Subjects {
-    pub(crate) places: IndexMap<Term, Items<u32>, SeededHash>,
+    pub(crate) ends: IndexMap<Term, Ends, SeededHash>,
+    // At each row the place of the next one of its subject, where one follows.
+    pub(crate) next: Vec<u32>,
+    // At each row the place of the one before it of its subject, where one precedes it.
+    pub(crate) previous: Vec<u32>,
 }
 
 impl Subjects {
     pub(crate) fn new(alloc: Global, hashing: SeededHash) -> Self
-        ensures { result.places.entries ≡ [] }
+        ensures { AreIndexed result [] }
     {
         Subjects {
-            places: IndexMap::with_hasher(alloc, hashing),
+            ends: IndexMap::with_hasher(alloc, hashing),
+            next: Vec::new(alloc),
+            previous: Vec::new(alloc),
         }
     }
 
-    // Adds a place after those of its subject. A refusal leaves all as before.
-    pub(crate) fn add(&mut self, subject: &Term, place: u32) -> Result<(), NoMemory>
-        ensures ok { OnOk result (AddsPlace self.old subject.now place self.new) }
-        ensures err { OnErr result (KeepsPlaces self.old self.new) }
+    // Adds the last of these rows, where it has those before it. A refusal leaves all as before.
+    pub(crate) fn add(&mut self, rows: &[Triple]) -> Result<(), NoMemory>
+        requires few { length rows.now ≤ MOST_ROWS }
+        requires indexed { AreIndexed self.old (take (length rows.now - 1) rows.now) }
+        ensures ok { OnOk result (AreIndexed self.new rows.now) }
+        ensures err { OnErr result (AreIndexed self.new (take (length rows.now - 1) rows.now)) }
     {
-        if let Some(places) = self.places.get_mut(subject) {
-            places.push(place)?;
+        let Some((row, front)) = rows.split_last() else {
+            return Ok(());
+        };
+        let place = front.len() as u32;
+        self.next.reserve(1)?;
+        self.previous.reserve(1)?;
+        if let Some(ends) = self.ends.get_mut(&row.s) {
+            let last = ends.last;
+            ends.last = place;
+            self.next[last as usize] = place;
+            self.next.push_reserved(place);
+            self.previous.push_reserved(last);
             return Ok(());
         }
-        let mut places = Items::new(*self.places.allocator());
-        places.push(place)?;
-        self.places.insert(subject.clone()?, places)?;
+        let ends = Ends {
+            first: place,
+            last: place,
+        };
+        self.ends.insert(row.s.clone()?, ends)?;
+        self.next.push_reserved(place);
+        self.previous.push_reserved(place);
         Ok(())
     }
 
-    // Drops the last place of a subject, and the subject with its last one.
-    pub(crate) fn drop_last(&mut self, subject: &Term)
-        ensures { DropsPlace self.old subject.now self.new }
+    // Drops the last of these rows.
+    pub(crate) fn drop_last(&mut self, rows: &[Triple])
+        requires { AreIndexed self.old rows.now }
+        ensures { AreIndexed self.new (take (length rows.now - 1) rows.now) }
     {
-        let Some(places) = self.places.get_mut(subject) else {
+        let Some((row, _)) = rows.split_last() else {
             return;
         };
-        places.pop();
-        if places.is_empty() {
-            self.places.swap_remove(subject);
+        self.next.pop();
+        let Some(previous) = self.previous.pop() else {
+            return;
+        };
+        let Some(ends) = self.ends.get_mut(&row.s) else {
+            return;
+        };
+        if ends.first == ends.last {
+            self.ends.swap_remove(&row.s);
+        } else {
+            ends.last = previous;
         }
     }
 
-    pub(crate) fn places(&self, subject: &Term) -> &[u32]
-        ensures { result.now ≡ places_of self.now subject.now }
+    pub(crate) fn ends(&self, subject: &Term) -> Option<Ends>
+        ensures { result ≡ ends_of self.now subject.now }
     {
-        match self.places.get(subject) {
-            Some(places) => places.as_slice(),
-            None => &[],
-        }
+        self.ends.get(subject).copied()
     }
 }

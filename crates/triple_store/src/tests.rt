@@ -87,6 +87,7 @@ fn cuts_and_adds_again(rt: HostRuntime) -> Result<(), Fail> {
     let mut store = three(alloc)?;
     assert_eq!(rt; store.rows().len(), 3);
     store.cut(1);
+    assert_eq!(rt; store.count(), 1);
     assert_eq!(rt; store.blanks(), 2);
     assert!(rt; store.add(triple(alloc, 0, 2)?)?);
     assert_eq!(rt; store.blanks(), 3);

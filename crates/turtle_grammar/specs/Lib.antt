@@ -1,4 +1,6 @@
-pub mod Pattern
 pub mod Characters
+pub mod Pattern
 pub mod Terminals
 pub mod Tokens
+pub mod Tree
+pub mod Value

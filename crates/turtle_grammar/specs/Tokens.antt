@@ -88,6 +88,15 @@ abbrev pub Lexes : List ℕ → ℕ → List Token → Answer → Type 0
 Lexes bytes at [] last = IsNext (chars (drop at bytes)) at last × IsLast last
 Lexes bytes at (t ∷ tokens) last = IsNext (chars (drop at bytes)) at (next t) × Lexes bytes t.upto tokens last
 
+-- The first tokens of a text whose characters stand from the byte `at` on, of which the last ends before `upto`.
+abbrev pub BeginsWithTokens : List ℕ → ℕ → List Token → ℕ → Type 0
+BeginsWithTokens bytes at [] upto = upto ≡ at
+BeginsWithTokens bytes at (t ∷ tokens) upto = IsNext (chars (drop at bytes)) at (next t) × BeginsWithTokens bytes t.upto tokens upto
+
+-- where a document's text begins: a byte order mark before it counts as white space
+abbrev pub start_of : List ℕ → ℕ
+start_of bytes = if starts_with nat_eq (chars bytes) (0xFEFF ∷ []) then 3 else 0
+
 -- No place of a text has two answers.
 abbrev pub HasOneAnswer : Type 0
 HasOneAnswer = (text : List ℕ) (at : ℕ) (a b : Answer) → IsNext text at a → IsNext text at b → a ≡ b

@@ -8,7 +8,7 @@ use Rattle.std.specs.Str.{is_utf8}
 use lib.Utf8.{encode}
 use Rattle.turtle_grammar.specs.Pattern.{Pattern, nothing, Matches, is_empty, after}
 use Rattle.turtle_grammar.specs.Terminals.{pattern, gap, iriref, short_string, long_string}
-use Rattle.turtle_grammar.specs.Tokens.{IsLongest, HasNone, Begins, Found, opened, FindsOpened, FindsPlain, Finds, bytes_of, Answer, IsAnswer, IsNext}
+use Rattle.turtle_grammar.specs.Tokens.{IsLongest, HasNone, Begins, Found, opened, FindsOpened, FindsPlain, Finds, bytes_of, Answer, IsAnswer, IsNext, start_of}
 use Rattle.turtle_grammar.specs.Tokens.Answer.{next as token_next, is_unclosed as cut_at, is_bad as bad_at}
 use Rattle.turtle_grammar.proofs.OneAnswer.{no_empty_token}
 use Rattle.turtle_grammar.specs.Tokens.Found.{token, unclosed, bad}
@@ -23,7 +23,7 @@ use Rattle.turtle_lex.specs.Scans.Seen.{closes}
 use Rattle.turtle_lex.specs.Picks.{Candidate, IsOne, IsNoLonger, PicksAt}
 use Rattle.turtle_lex.specs.Kinds.{candidate, tokens}
 use Rattle.turtle_lex.specs.Found.{FindsAt}
-use Rattle.turtle_lex.specs.Reading.{IsFault, fault_at, start_of}
+use Rattle.turtle_lex.specs.Reading.{IsFault, fault_at}
 use Rattle.turtle_lex.specs.Enclosure.{body, long_body, long_opening}
 use Rattle.turtle_lex.specs.declared.enclosure.Enclosure.TheVariants as enclosures
 use Rattle.turtle_lex.specs.Tags.{spaces, gap_state}

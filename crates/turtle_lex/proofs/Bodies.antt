@@ -172,7 +172,7 @@ three_live : (q : ℕ) → Begins (times 3 (char q)) []
 three_live q = (q ∷ q ∷ q ∷ [], (q ∷ [], q ∷ q ∷ [], (q, eq_true q, refl), two_match q, refl))
 
 -- the body of a long string
-closing_not_plain : (e : Enclosure) → plain e (closing e) ≡ false
+pub closing_not_plain : (e : Enclosure) → plain e (closing e) ≡ false
 unfolding is_excluded
 closing_not_plain Angle = refl
 closing_not_plain Double = refl

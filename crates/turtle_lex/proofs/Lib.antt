@@ -13,3 +13,6 @@ pub mod LocalSteps
 pub mod Starts
 pub mod Merge
 pub mod Assembly
+pub mod Tables
+pub mod Walks
+pub mod Runs

@@ -8,7 +8,7 @@ use Rattle.turtle_grammar.specs.Terminals.{pattern, iriref, short_string, long_s
 use Rattle.turtle_grammar.specs.declared.token.TokenKind.{TokenKind}
 use Rattle.turtle_grammar.specs.declared.token.TokenKind.TheVariants.{Comma, Semicolon, OpenSquare, CloseSquare, OpenRound, CloseRound, DoubleCaret, A, True, False, Prefix, Base}
 use Rattle.turtle_lex.specs.Picks.{Candidate, all_after, alive, accepting, PicksAt}
-use Rattle.turtle_lex.specs.Kinds.{wanting, others, words, tokens, IsMark, dot_start, underscore, caret, letters, letter_class}
+use Rattle.turtle_lex.specs.Kinds.{wanting, others, words, tokens, dot_start, underscore, caret, letters, letter_class}
 use Rattle.turtle_lex.specs.Names.{prefix, colon, label_start}
 use Rattle.turtle_lex.specs.Numbers.{unsigned, whole, fraction}
 use Rattle.turtle_lex.specs.Tags.{tag_start}
@@ -264,10 +264,6 @@ letters_accept true kind letter rest = refl
 pub letters_done : (b : Bool) (kind : TokenKind) → wanting kind (letters b []) ∷ [] ≡ wanting kind nothing ∷ []
 letters_done false kind = refl
 letters_done true kind = refl
-
-pub no_mark : (c : ℕ) (found : Option TokenKind) → ((x : TokenKind) → found ≡ Some x → ⊥) → IsMark c found → IsMark c None
-no_mark c None not_some h = h
-no_mark c (Some x) not_some h = absurd (not_some x refl)
 
 at_word : (b : Bool) (kind : TokenKind) (text : List ℕ) (at : ℕ) (found : Option (TokenKind × ℕ)) (v w : List ℕ) → v ≡ w → PicksAt (wanting kind (letters b w) ∷ []) text at found → PicksAt (wanting kind (letters b v) ∷ []) text at found
 at_word b kind text at found v w e h = let P : List ℕ → Type 0 = λ x. PicksAt (wanting kind (letters b x) ∷ []) text at found in subst P (sym e) h

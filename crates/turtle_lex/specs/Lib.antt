@@ -7,6 +7,7 @@ pub mod Run
 pub mod Numbers
 pub mod Tags
 pub mod Names
+pub mod Classes
 pub mod Kinds
 pub mod Reading
 pub mod Found

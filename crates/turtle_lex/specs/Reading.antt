@@ -1,9 +1,7 @@
 -- How far a lexer has come, and what it finds there.
-use Rattle.std.specs.Prelude.{◌≡◌, ℕ, nat_eq, Option, Some, None, MatchOption, Result, Ok, Err, if◌then◌else◌, List, [], ◌∷◌, IsUtf8}
-use Rattle.std.specs.List.{starts_with}
-use Rattle.std.specs.Str.{chars}
+use Rattle.std.specs.Prelude.{◌≡◌, ℕ, Option, Some, None, MatchOption, Result, Ok, Err, List, IsUtf8}
 use Rattle.std.specs.Str.Lossy.{utf8_valid_len}
-use Rattle.turtle_grammar.specs.Tokens.{IsNext}
+use Rattle.turtle_grammar.specs.Tokens.{IsNext, start_of}
 use Rattle.turtle_grammar.specs.Tokens.Answer.{next, end, is_unclosed, is_bad}
 use Rattle.turtle_grammar.specs.declared.token.Token.{Token}
 use Rattle.turtle_lex.specs.declared.fault.LexFault.{LexFault}
@@ -17,10 +15,6 @@ pub record Reading : Type 0 where
   pub text : List ℕ
   pub at : ℕ
   pub fault : Option LexFault
-
--- a byte order mark counts as white space where a text begins with it
-abbrev pub start_of : List ℕ → ℕ
-start_of text = if starts_with nat_eq (chars text) (0xFEFF ∷ []) then 3 else 0
 
 -- At the beginning it stands before the text, or has met bytes that aren't UTF-8.
 abbrev pub IsBegun : List ℕ → Reading → Type 0

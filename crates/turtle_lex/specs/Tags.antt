@@ -50,3 +50,7 @@ gap_state true = record { kind = Dot; wanted = (many (one (λ c. not (is_line_en
 abbrev pub GapSteps : ℕ → Bool → Option Bool → Type 0
 GapSteps c in_comment (Some next) = alive (all_after c (gap_state in_comment)) ≡ gap_state next
 GapSteps c in_comment None = alive (all_after c (gap_state in_comment)) ≡ []
+
+-- what is picked behind characters that change nothing in a gap is picked before them
+abbrev pub GapCarries : Bool → List ℕ → ℕ → ℕ → Type 0
+GapCarries in_comment text at upto = (x : TokenKind × ℕ) → PicksAt (gap_state in_comment) text upto (Some x) → PicksAt (gap_state in_comment) text at (Some x)

@@ -1,10 +1,13 @@
 ghost use Rattle.std.specs.Prelude.{◌≡◌, codes};
-ghost use Rattle.turtle_grammar.specs.Characters.{among, is_white, is_line_end, is_digit, is_letter, is_letter_or_digit, is_hex, is_sign, is_exponent, is_excluded, is_escape, is_name_base, is_name_start, is_name_char, is_local_escape};
+ghost use Rattle.turtle_grammar.specs.Characters.{among, is_white, is_line_end, is_digit, is_letter, is_letter_or_digit, is_hex, is_sign, is_exponent, is_escape, is_name_base, is_name_start, is_name_char, is_local_escape};
 ghost use Rattle.turtle_grammar.specs.Terminals.{is_hex_but_d};
 ghost use Rattle.turtle_lex.specs.Names.{is_local_start, is_local_char};
 ghost use Rattle.turtle_lex.specs.Places.{IsPlace, ReadsChar};
 
+use crate::class::Class;
+
 /// The character at a place, and the place behind it. None at the end.
+#[inline(always)]
 pub fn char_at(text: &str, at: usize) -> Option<(char, usize)>
     requires { IsPlace text.now at }
     ensures { ReadsChar text.now at result }
@@ -17,6 +20,15 @@ pub fn char_at(text: &str, at: usize) -> Option<(char, usize)>
     if byte < 128 {
         return Some((char::from(byte), at + 1));
     }
+    decoded_at(text, at)
+}
+
+/// The same by decoding UTF-8, apart from the path of ASCII.
+#[inline(never)]
+fn decoded_at(text: &str, at: usize) -> Option<(char, usize)>
+    requires { IsPlace text.now at }
+    ensures { ReadsChar text.now at result }
+{
     match text[at..].chars().next() {
         Some(found) => Some((found, at + found.len_utf8())),
         None => None,
@@ -101,8 +113,22 @@ pub fn is_line_end(c: char) -> bool
 }
 
 /// PN_CHARS_BASE [163s] of Turtle.
+#[inline(always)]
 #[tactic(auto, unfolding(turtle_grammar::specs::Characters::is_name_base, turtle_grammar::specs::Characters::is_letter))]
 pub fn is_name_base(c: char) -> bool
+    ensures { result ≡ is_name_base c }
+{
+    if (c as u32) < 128 {
+        matches!(c, 'A'..='Z' | 'a'..='z')
+    } else {
+        is_wide_name_base(c)
+    }
+}
+
+/// The same by its ranges, apart from the path of ASCII.
+#[inline(never)]
+#[tactic(auto, unfolding(turtle_grammar::specs::Characters::is_name_base, turtle_grammar::specs::Characters::is_letter))]
+fn is_wide_name_base(c: char) -> bool
     ensures { result ≡ is_name_base c }
 {
     matches!(
@@ -125,6 +151,7 @@ pub fn is_name_base(c: char) -> bool
 }
 
 /// PN_CHARS_U [164s] of Turtle.
+#[inline(always)]
 #[tactic(auto, unfolding(turtle_grammar::specs::Characters::is_name_start))]
 pub fn is_name_start(c: char) -> bool
     ensures { result ≡ is_name_start c }
@@ -133,8 +160,23 @@ pub fn is_name_start(c: char) -> bool
 }
 
 /// PN_CHARS [166s] of Turtle.
-#[tactic(auto, unfolding(turtle_grammar::specs::Characters::is_name_char, turtle_grammar::specs::Characters::is_digit))]
+#[inline(always)]
+#[tactic(auto, using(crate::proofs::Walks::small_byte))]
 pub fn is_name_char(c: char) -> bool
+    ensures { result ≡ is_name_char c }
+{
+    let code = c as u32;
+    if code < 128 {
+        Class::Name.has(code as u8)
+    } else {
+        is_wide_name_char(c)
+    }
+}
+
+/// The same by its ranges, apart from the path of ASCII.
+#[inline(never)]
+#[tactic(auto, unfolding(turtle_grammar::specs::Characters::is_name_char, turtle_grammar::specs::Characters::is_digit))]
+fn is_wide_name_char(c: char) -> bool
     ensures { result ≡ is_name_char c }
 {
     is_name_start(c)
@@ -159,6 +201,7 @@ pub fn is_local_escape(c: char) -> bool
 }
 
 /// Whether a local name may begin so, but for an escape.
+#[inline(always)]
 pub fn is_local_start(c: char) -> bool
     ensures { result ≡ is_local_start c }
 {

@@ -2,9 +2,10 @@ ghost use Rattle.std.specs.Prelude.{◌<◌, IfOk};
 ghost use Rattle.turtle_grammar.specs.Pattern.{nothing};
 ghost use Rattle.turtle_lex.specs.Enclosure.{piece, body, long_body};
 ghost use Rattle.turtle_lex.specs.Places.{IsPlace, Reads};
-ghost use Rattle.turtle_lex.specs.Scans.{Leads, LeadsInside};
+ghost use Rattle.turtle_lex.specs.Scans.{Goes, Leads, LeadsInside};
 
 use crate::characters::char_at;
+use crate::class::Class;
 use crate::enclosure::Enclosure;
 use crate::escape::escape_end;
 use crate::stop::Stop;
@@ -32,17 +33,27 @@ fn piece_end(
     }
 }
 
+/// Over the characters that stand for themselves.
+fn plain_end(text: &str, from: usize, enclosure: Enclosure) -> usize
+    requires { IsPlace text.now from }
+    ensures short { Goes (body enclosure) (body enclosure) text.now from result }
+    ensures long { Goes (long_body enclosure 0) (long_body enclosure 0) text.now from result }
+{
+    Class::Plain(enclosure).run_end(text, from)
+}
+
 /// From behind the opening of an IRI or a short string to behind its close.
 pub fn body_end(text: &str, from: usize, enclosure: Enclosure) -> Result<usize, Stop>
     requires { IsPlace text.now from }
     ensures { Leads (body enclosure) nothing text.now from result }
 {
-    let mut at = from;
+    let mut at = plain_end(text, from, enclosure);
     while let Some((c, next)) = char_at(text, at) {
         if c == enclosure.closing() {
             return Ok(next);
         }
-        at = piece_end(text, at, c, next, enclosure)?;
+        let upto = piece_end(text, at, c, next, enclosure)?;
+        at = plain_end(text, upto, enclosure);
     }
     Err(Stop::Unclosed)
 }
@@ -52,7 +63,7 @@ pub fn long_body_end(text: &str, from: usize, enclosure: Enclosure) -> Result<us
     requires { IsPlace text.now from }
     ensures { Leads (long_body enclosure 0) nothing text.now from result }
 {
-    let mut at = from;
+    let mut at = plain_end(text, from, enclosure);
     let mut quotes = 0usize;
     while let Some((c, next)) = char_at(text, at) {
         if c == enclosure.closing() {
@@ -62,7 +73,8 @@ pub fn long_body_end(text: &str, from: usize, enclosure: Enclosure) -> Result<us
             quotes += 1;
             at = next;
         } else {
-            at = piece_end(text, at, c, next, enclosure)?;
+            let upto = piece_end(text, at, c, next, enclosure)?;
+            at = plain_end(text, upto, enclosure);
             quotes = 0;
         }
     }

@@ -1,4 +1,4 @@
-ghost use Rattle.std.specs.Prelude.{◌≡◌, ◌<◌, IfOk};
+ghost use Rattle.std.specs.Prelude.{◌≡◌, IfOk};
 ghost use Rattle.turtle_grammar.specs.Pattern.{one, times};
 ghost use Rattle.turtle_grammar.specs.Terminals.{hex, short_code, long_code};
 ghost use Rattle.turtle_lex.specs.Places.{IsPlace};

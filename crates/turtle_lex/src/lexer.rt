@@ -1,6 +1,7 @@
 ghost use Rattle.std.specs.Prelude.{◌≡◌};
+ghost use Rattle.turtle_grammar.specs.Tokens.{start_of};
 ghost use Rattle.turtle_lex.specs.Places.{IsPlace};
-ghost use Rattle.turtle_lex.specs.Reading.{Steps, ComesNext, EndsAtPlace, fault_at, start_of};
+ghost use Rattle.turtle_lex.specs.Reading.{Steps, ComesNext, EndsAtPlace, fault_at};
 
 use crate::characters::char_at;
 use crate::fault::LexFault;

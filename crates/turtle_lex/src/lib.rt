@@ -2,11 +2,13 @@
 #![tactic(auto)]
 
 mod characters;
+mod class;
 mod enclosed;
 mod enclosure;
 mod escape;
 mod fault;
 mod gap;
+mod groups;
 mod lexer;
 mod local;
 mod name;

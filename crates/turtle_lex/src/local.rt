@@ -1,4 +1,4 @@
-ghost use Rattle.std.specs.Prelude.{◌≡◌, ◌≢◌};
+ghost use Rattle.std.specs.Prelude.{◌≢◌};
 ghost use Rattle.turtle_grammar.specs.Characters.{is_local_escape};
 ghost use Rattle.turtle_grammar.specs.Pattern.{one, times};
 ghost use Rattle.turtle_grammar.specs.Terminals.{hex};
@@ -7,6 +7,7 @@ ghost use Rattle.turtle_lex.specs.Picks.{PicksAt};
 ghost use Rattle.turtle_lex.specs.Places.{IsPlace, Reads};
 
 use crate::characters::{char_at, is_hex, is_local_char, is_local_escape, is_local_start};
+use crate::class::Class;
 use turtle_grammar::TokenKind;
 
 /// Over the second digit behind `%`.
@@ -71,8 +72,8 @@ fn local_end(text: &str, from: usize) -> usize
     requires { IsPlace text.now from }
     ensures { PicksAt local text.now from (Some (TokenKind.PrefixedName, result)) }
 {
-    let mut last = from;
-    let mut at = from;
+    let mut at = Class::LocalName.run_end(text, from);
+    let mut last = at;
     while let Some((c, next)) = char_at(text, at) {
         if c == '.' {
             at = next;
@@ -80,8 +81,8 @@ fn local_end(text: &str, from: usize) -> usize
             match part_end(text, at, c, next) {
                 None => return last,
                 Some(end) => {
-                    last = end;
-                    at = end;
+                    at = Class::LocalName.run_end(text, end);
+                    last = at;
                 }
             }
         }
@@ -90,6 +91,7 @@ fn local_end(text: &str, from: usize) -> usize
 }
 
 /// A local name, if one stands behind the colon at whose end `at` is.
+#[inline(always)]
 pub fn local_at(text: &str, at: usize) -> Option<(TokenKind, usize)>
     requires { IsPlace text.now at }
     ensures { PicksAt colon text.now at result }

@@ -3,6 +3,7 @@ ghost use Rattle.turtle_lex.specs.Picks.{PicksAt};
 ghost use Rattle.turtle_lex.specs.Places.{IsPlace};
 
 use crate::characters::{char_at, is_digit, is_name_char, is_name_start};
+use crate::class::Class;
 use turtle_grammar::TokenKind;
 
 /// Where a prefix or a label ends, from behind its first character: not behind a dot.
@@ -10,12 +11,12 @@ pub fn name_end(text: &str, from: usize) -> usize
     requires { IsPlace text.now from }
     ensures { IsNameEnd text.now from result }
 {
-    let mut last = from;
-    let mut at = from;
+    let mut at = Class::Name.run_end(text, from);
+    let mut last = at;
     while let Some((c, next)) = char_at(text, at) {
         if is_name_char(c) {
-            last = next;
-            at = next;
+            at = Class::Name.run_end(text, next);
+            last = at;
         } else if c == '.' {
             at = next;
         } else {

@@ -14,7 +14,6 @@ use crate::word::word_at;
 use turtle_grammar::TokenKind;
 
 /// The mark that the character is, if it is one that begins no other token.
-
 fn mark_of(c: char) -> Option<TokenKind>
     ensures { IsMark c result }
 {
@@ -75,6 +74,7 @@ fn underscore_at(text: &str, at: usize) -> Option<(TokenKind, usize)>
 }
 
 /// A name, from behind the first letter of its prefix.
+#[inline(always)]
 fn prefix_at(text: &str, at: usize) -> Option<(TokenKind, usize)>
     requires { IsPlace text.now at }
     ensures { PicksAt prefix text.now at result }
@@ -95,8 +95,8 @@ pub fn plain_at(text: &str, at: usize, c: char, next: usize) -> Option<(TokenKin
     requires no_single { c ≢ 39 }
     ensures { PicksAt tokens text.now at result }
 {
-    if let Some(kind) = mark_of(c) {
-        Some((kind, next))
+    if is_name_base(c) {
+        name_or_word_at(text, at, c, next)
     } else if is_digit(c) {
         whole_at(text, next)
     } else if is_sign(c) {
@@ -111,14 +111,16 @@ pub fn plain_at(text: &str, at: usize, c: char, next: usize) -> Option<(TokenKin
         tag_at(text, next)
     } else if c == '^' {
         caret_at(text, next)
-    } else if is_name_base(c) {
-        name_or_word_at(text, at, c, next)
     } else {
-        None
+        match mark_of(c) {
+            None => None,
+            Some(kind) => Some((kind, next)),
+        }
     }
 }
 
 /// The name or the word that begins with a letter `c` at `at`, behind which `next` is.
+#[inline(always)]
 fn name_or_word_at(text: &str, at: usize, c: char, next: usize) -> Option<(TokenKind, usize)>
     requires place { IsPlace text.now at }
     requires reads { Reads text.now at c next }

@@ -1,4 +1,3 @@
-ghost use Rattle.std.specs.Prelude.{◌≢◌, IfOk};
 ghost use Rattle.turtle_lex.specs.Found.{FindsAt, OpensLong};
 ghost use Rattle.turtle_lex.specs.Places.{IsPlace, Reads};
 

@@ -44,6 +44,7 @@ fn letters_at(
 }
 
 /// The word that begins with `c` at `at`, behind which `next` is.
+#[inline(never)]
 pub fn word_at(text: &str, at: usize, c: char, next: usize) -> Option<(TokenKind, usize)>
     requires place { IsPlace text.now at }
     requires reads { Reads text.now at c next }

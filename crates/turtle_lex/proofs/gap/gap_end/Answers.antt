@@ -12,7 +12,7 @@ returns-in-None c =
 
 pub loop-c-preserved : goal.loop-c-preserved
 loop-c-preserved c =
-    (c.in-Some.ensures.place, λ x h. c.loop-c.invariant.1 x (pick_or c.args.text.now c.loop-c.at c.in-Some.c c.in-Some.next (gap_state c.loop-c.in_comment) (gap_state c.in-Some-gap_step.inside) (Some x) (Some x) Dot c.loop-c.invariant.0 c.in-Some.ensures c.in-Some-gap_step.ensures (gap_accepts c.loop-c.in_comment) h refl))
+    (c.gap_run_end-at-in-Some-gap_step.ensures.place, λ x h. c.loop-c.invariant.1 x (pick_or c.args.text.now c.loop-c.at c.in-Some.c c.in-Some.next (gap_state c.loop-c.in_comment) (gap_state c.in-Some-gap_step.inside) (Some x) (Some x) Dot c.loop-c.invariant.0 c.in-Some.ensures c.in-Some-gap_step.ensures (gap_accepts c.loop-c.in_comment) (c.gap_run_end-at-in-Some-gap_step.ensures.carries x h) refl))
 
 pub returns : goal.returns
 returns c =

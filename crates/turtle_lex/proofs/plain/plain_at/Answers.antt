@@ -5,7 +5,7 @@ use Rattle.turtle_lex.specs.Names.{colon}
 use Rattle.turtle_lex.specs.Numbers.{unsigned, whole}
 use Rattle.turtle_lex.specs.Tags.{tag_start}
 use Rattle.turtle_lex.proofs.Picked.{pick_through, pick_none, pick_done}
-use Rattle.turtle_lex.proofs.Starts.{starts_dot, starts_colon, starts_underscore, starts_at, starts_caret, starts_digit, starts_sign, starts_none, tokens_accept, no_mark}
+use Rattle.turtle_lex.proofs.Starts.{starts_dot, starts_colon, starts_underscore, starts_at, starts_caret, starts_digit, starts_sign, starts_none, tokens_accept}
 use Rattle.turtle_lex.proofs.plain.plain_at.Goals as goal
 
 pub returns-in-Some : goal.returns-in-Some
@@ -40,9 +40,9 @@ pub returns-then-c-eq94 : goal.returns-then-c-eq94
 returns-then-c-eq94 c =
     pick_through c.args.text.now c.args.at c.args.c c.args.next tokens caret c.caret_at.result c.requires.place c.requires.reads (starts_caret c.args.c c.if-c-eq94.true) tokens_accept c.caret_at.ensures
 
-pub returns-else-is_name_base : goal.returns-else-is_name_base
-returns-else-is_name_base c =
-    let m = no_mark c.args.c c.mark_of.result c.in_default.not-Some c.mark_of.ensures in
+pub returns-in-None : goal.returns-in-None
+returns-in-None c =
+    let m = c.in-None.ensures in
     pick_none c.args.text.now c.args.at c.args.c c.args.next tokens c.requires.place c.requires.reads
     (starts_none c.args.c (sym c.if-is_digit.ensures) (sym c.if-is_sign.ensures) (sym c.if-is_name_base.ensures) c.requires.no_angle c.requires.no_double c.requires.no_single c.if-c-eq46.false m.0 m.1 m.2 m.3 m.4 m.5 c.if-c-eq94.false c.if-c-eq58.false c.if-c-eq95.false c.if-c-eq64.false)
     tokens_accept

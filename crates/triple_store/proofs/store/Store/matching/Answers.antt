@@ -1,18 +1,15 @@
-use Rattle.std.proofs.Common.{◌≡◌, length, sym, ◌∙◌, ap, arith}
+use Rattle.std.proofs.Common.{◌∙◌, ap, subst, sym}
 use Rattle.std.specs.Option.{option_copied}
-use Rattle.triple_store.specs.Index.{places_from}
-use Rattle.triple_store.proofs.Places.{places_from-within, matching_picked}
+use Rattle.triple_store.specs.Index.{AreIndexed}
+use Rattle.triple_store.proofs.Walk.{chain_of, matching_chain}
 use Rattle.triple_store.proofs.store.Store.matching.Goals as goal
 
-pub new-picked-requires : goal.new-picked-requires
-new-picked-requires c =
-    let at : c.places.result.now ≡ places_from 0 c.in-Some.subject.now c.as_slice-rows.result.now =
-    c.places.ensures ∙ c.self.invariant.indexed c.in-Some.subject.now ∙ ap (places_from 0 c.in-Some.subject.now) (sym c.as_slice-rows.ensures.keys) in
-    rw at (places_from-within 0 c.in-Some.subject.now c.as_slice-rows.result.now (length c.as_slice-rows.result.now) (omega arith))
+pub new-chain-requires : goal.new-chain-requires
+new-chain-requires c =
+    chain_of c.self.inside.subjects c.as_slice-rows.result.now c.as_slice.result.now c.in-Some.subject.now c.ends-left.result
+    (subst (AreIndexed c.self.inside.subjects) (sym c.as_slice-rows.ensures.keys) c.self.invariant.indexed) c.as_slice.ensures.value c.ends-left.ensures
 
 pub returns-in-Some : goal.returns-in-Some
 returns-in-Some c =
-    let at : c.places.result.now ≡ places_from 0 c.in-Some.subject.now c.as_slice-rows.result.now =
-    c.places.ensures ∙ c.self.invariant.indexed c.in-Some.subject.now ∙ ap (places_from 0 c.in-Some.subject.now) (sym c.as_slice-rows.ensures.keys) in
-    matching_picked c.as_slice-rows.result.now c.args.self.now c.places.result.now (option_copied c.args.s) (option_copied c.args.p) (option_copied c.args.o) c.in-Some.subject.now c.new-picked.result c.new-in-Some.result
-    (c.as_slice-rows.ensures.keys ∙ c.self.view_is) at (ap option_copied c.in-Some.is) c.new-picked.ensures c.new-in-Some.ensures
+    matching_chain c.self.inside.subjects c.as_slice-rows.result.now c.args.self.now (option_copied c.args.s) (option_copied c.args.p) (option_copied c.args.o) c.in-Some.subject.now c.ends-left.result c.new-chain.result c.new-in-Some.result
+    (subst (AreIndexed c.self.inside.subjects) (sym c.as_slice-rows.ensures.keys) c.self.invariant.indexed) (c.as_slice-rows.ensures.keys ∙ c.self.view_is) (ap option_copied c.in-Some.is) c.ends-left.ensures c.new-chain.ensures c.new-in-Some.ensures

@@ -1,0 +1,4 @@
+pub mod Answer
+pub mod Machine
+pub mod Meaning
+pub mod Vocabulary

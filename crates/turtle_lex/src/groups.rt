@@ -1,0 +1,86 @@
+//! Which group each byte is of. Every ASCII character is of one, and all characters of a group may stand at the same places.
+
+/// A space or a tab.
+pub const SPACE: u16 = 1;
+
+/// A line feed or a carriage return.
+pub const LINE_END: u16 = 2;
+
+/// `"`
+pub const DOUBLE: u16 = 4;
+
+/// `'`
+pub const SINGLE: u16 = 8;
+
+/// A backslash.
+pub const BACKSLASH: u16 = 16;
+
+/// What else can't stand for itself in an IRI: the other control characters below the space, and `<>{}|^` and the backquote.
+pub const EXCLUDED: u16 = 32;
+
+/// `-` or `_`
+pub const DASH: u16 = 64;
+
+/// `:`
+pub const COLON: u16 = 128;
+
+pub const DIGIT: u16 = 256;
+
+pub const LETTER: u16 = 512;
+
+/// Any other ASCII character.
+pub const OTHER: u16 = 1024;
+
+/// A byte of a character above 127.
+pub const WIDE: u16 = 2048;
+
+/// All groups.
+pub const ALL: u16 = SPACE
+    | LINE_END
+    | DOUBLE
+    | SINGLE
+    | BACKSLASH
+    | EXCLUDED
+    | DASH
+    | COLON
+    | DIGIT
+    | LETTER
+    | OTHER
+    | WIDE;
+
+/// The group of each byte.
+#[rattlefmt::skip]
+pub static GROUPS: [u16; 256] = [
+    EXCLUDED, EXCLUDED, EXCLUDED, EXCLUDED, EXCLUDED, EXCLUDED, EXCLUDED, EXCLUDED,
+    EXCLUDED, SPACE, LINE_END, EXCLUDED, EXCLUDED, LINE_END, EXCLUDED, EXCLUDED,
+    EXCLUDED, EXCLUDED, EXCLUDED, EXCLUDED, EXCLUDED, EXCLUDED, EXCLUDED, EXCLUDED,
+    EXCLUDED, EXCLUDED, EXCLUDED, EXCLUDED, EXCLUDED, EXCLUDED, EXCLUDED, EXCLUDED,
+    SPACE, OTHER, DOUBLE, OTHER, OTHER, OTHER, OTHER, SINGLE,
+    OTHER, OTHER, OTHER, OTHER, OTHER, DASH, OTHER, OTHER,
+    DIGIT, DIGIT, DIGIT, DIGIT, DIGIT, DIGIT, DIGIT, DIGIT,
+    DIGIT, DIGIT, COLON, OTHER, EXCLUDED, OTHER, EXCLUDED, OTHER,
+    OTHER, LETTER, LETTER, LETTER, LETTER, LETTER, LETTER, LETTER,
+    LETTER, LETTER, LETTER, LETTER, LETTER, LETTER, LETTER, LETTER,
+    LETTER, LETTER, LETTER, LETTER, LETTER, LETTER, LETTER, LETTER,
+    LETTER, LETTER, LETTER, OTHER, BACKSLASH, OTHER, EXCLUDED, DASH,
+    EXCLUDED, LETTER, LETTER, LETTER, LETTER, LETTER, LETTER, LETTER,
+    LETTER, LETTER, LETTER, LETTER, LETTER, LETTER, LETTER, LETTER,
+    LETTER, LETTER, LETTER, LETTER, LETTER, LETTER, LETTER, LETTER,
+    LETTER, LETTER, LETTER, EXCLUDED, EXCLUDED, EXCLUDED, OTHER, OTHER,
+    WIDE, WIDE, WIDE, WIDE, WIDE, WIDE, WIDE, WIDE,
+    WIDE, WIDE, WIDE, WIDE, WIDE, WIDE, WIDE, WIDE,
+    WIDE, WIDE, WIDE, WIDE, WIDE, WIDE, WIDE, WIDE,
+    WIDE, WIDE, WIDE, WIDE, WIDE, WIDE, WIDE, WIDE,
+    WIDE, WIDE, WIDE, WIDE, WIDE, WIDE, WIDE, WIDE,
+    WIDE, WIDE, WIDE, WIDE, WIDE, WIDE, WIDE, WIDE,
+    WIDE, WIDE, WIDE, WIDE, WIDE, WIDE, WIDE, WIDE,
+    WIDE, WIDE, WIDE, WIDE, WIDE, WIDE, WIDE, WIDE,
+    WIDE, WIDE, WIDE, WIDE, WIDE, WIDE, WIDE, WIDE,
+    WIDE, WIDE, WIDE, WIDE, WIDE, WIDE, WIDE, WIDE,
+    WIDE, WIDE, WIDE, WIDE, WIDE, WIDE, WIDE, WIDE,
+    WIDE, WIDE, WIDE, WIDE, WIDE, WIDE, WIDE, WIDE,
+    WIDE, WIDE, WIDE, WIDE, WIDE, WIDE, WIDE, WIDE,
+    WIDE, WIDE, WIDE, WIDE, WIDE, WIDE, WIDE, WIDE,
+    WIDE, WIDE, WIDE, WIDE, WIDE, WIDE, WIDE, WIDE,
+    WIDE, WIDE, WIDE, WIDE, WIDE, WIDE, WIDE, WIDE,
+];

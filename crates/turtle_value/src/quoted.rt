@@ -1,0 +1,44 @@
+ghost use Rattle.std.specs.Prelude.{◌≡◌, IfOk};
+ghost use Rattle.turtle_grammar.specs.Value.{quotes, reference_of, string_of};
+ghost use Rattle.turtle_value.specs.Quotings.{quoting_of};
+
+use crate::unescape::content_text;
+use lv_base::{NoMemory, Text};
+use std::alloc::Global;
+
+/// The quotes of a string: String [17].
+#[derive(Clone, Copy, Debug, PartialEq, Eq)]
+pub enum Quotes {
+    /// `".."`
+    Double,
+    /// `'..'`
+    Single,
+    /// `"""..."""`
+    LongDouble,
+    /// `'''..'''`
+    LongSingle,
+}
+
+/// What a string says: each escape by its character (ECHAR [159s], UCHAR [26]).
+pub fn string_text(alloc: Global, quotes: Quotes, token: &str) -> Result<Text, NoMemory>
+    ensures { IfOk result (λ text. text ≡ string_of (quoting_of quotes) token.now) }
+{
+    content_text(alloc, token, count(quotes))
+}
+
+/// What stands between an IRI's angle brackets: each escape by its character (IRIREF [18]).
+pub fn reference_text(alloc: Global, token: &str) -> Result<Text, NoMemory>
+    ensures { IfOk result (λ text. text ≡ reference_of token.now) }
+{
+    content_text(alloc, token, 1)
+}
+
+// How many quotes stand at each end.
+fn count(of: Quotes) -> usize
+    ensures { result ≡ quotes (quoting_of of) }
+{
+    match of {
+        Quotes::Double | Quotes::Single => 1,
+        Quotes::LongDouble | Quotes::LongSingle => 3,
+    }
+}
