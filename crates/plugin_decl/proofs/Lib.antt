@@ -1,0 +1,11 @@
+pub mod Rows
+pub mod Places
+pub mod Order
+pub mod Checking
+pub mod IndexRules
+pub mod Ordering
+pub mod PortTests
+pub mod Laws
+pub mod Validity
+pub mod Answers
+pub mod Examples

@@ -1,0 +1,25 @@
+-- Rows of a subject, cut down to those of a predicate, are the rows of both.
+use Rattle.std.proofs.Common.{◌≡◌, Bool, true, false, cond, List, [], ◌∷◌, map, filter, None, Some, refl, ap, ◌∙◌}
+use Rattle.std.specs.Prelude.{◌&&◌}
+use Rattle.triple_store.specs.declared.term.Term.{Term}
+use Rattle.triple_store.specs.declared.term.Term.TheVariants.{Iri}
+use Rattle.triple_store.specs.declared.term.Triple.{Triple}
+use Rattle.triple_store.specs.Triples.{same_term, agrees}
+use Rattle.plugin_decl.specs.declared.vocabulary.Word.{Word}
+use Rattle.plugin_decl.specs.Vocabulary.{iri_of, names}
+use Rattle.plugin_decl.specs.Objects.{object, objects_of}
+
+-- one row, which agrees with the subject and names the predicate or not
+keeps : (a b : Bool) (row : Triple) (more less : List Triple) (test : Triple → Bool) → test row ≡ b → filter test more ≡ less → filter test (cond (a && (true && true)) (row ∷ more) more) ≡ cond (a && (b && true)) (row ∷ less) less
+keeps false b row more less test h e = e
+keeps true true row more less test h e = ap (λ t. cond t (row ∷ filter test more) (filter test more)) h ∙ ap (λ rest. row ∷ rest) e
+keeps true false row more less test h e = ap (λ t. cond t (row ∷ filter test more) (filter test more)) h ∙ e
+
+filter-agrees : (rows : List Triple) (subject : Term) (predicate : Word) → filter (λ (row : Triple). names predicate row.p) (filter (agrees (Some subject) None None) rows) ≡ filter (agrees (Some subject) (Some (Iri (iri_of predicate))) None) rows
+filter-agrees [] subject predicate = refl
+filter-agrees (row ∷ rows) subject predicate =
+    keeps (same_term subject row.s) (names predicate row.p) row (filter (agrees (Some subject) None None) rows) _ (λ (t : Triple). names predicate t.p) refl (filter-agrees rows subject predicate)
+
+pub objects-found : (rows found : List Triple) (subject : Term) (predicate : Word) → found ≡ filter (agrees (Some subject) None None) rows → map object (filter (λ (row : Triple). names predicate row.p) found) ≡ objects_of rows subject predicate
+unfolding objects_of
+objects-found rows found subject predicate e = ap (λ kept. map object (filter (λ (row : Triple). names predicate row.p) kept)) e ∙ ap (map object) (filter-agrees rows subject predicate)

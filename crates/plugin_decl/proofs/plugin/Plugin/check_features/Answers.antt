@@ -1,0 +1,27 @@
+use Rattle.std.proofs.Common.{inr, sym, subst}
+use Rattle.std.specs.Prelude.{not}
+use Rattle.plugin_decl.specs.declared.declaration.DeclFault.TheVariants.{Feature}
+use Rattle.plugin_decl.specs.declared.vocabulary.Word.TheVariants.{Lv2RequiredFeature}
+use Rattle.plugin_decl.specs.Features.{is_supported}
+use Rattle.plugin_decl.specs.Objects.{objects_of}
+use Rattle.plugin_decl.specs.Rules.{IsFirstBroken}
+use Rattle.plugin_decl.specs.Rules.Rule.{feature}
+use Rattle.plugin_decl.proofs.Checking.{kept-first}
+use Rattle.plugin_decl.proofs.Places.{find-none}
+use Rattle.plugin_decl.proofs.PortTests.{test-feature, among-first}
+use Rattle.plugin_decl.proofs.plugin.Plugin.check_features.Goals as goal
+
+pub returns-in_ok-copy_of-in-Some : goal.returns-in_ok-copy_of-in-Some
+returns-in_ok-copy_of-in-Some c =
+    let rows = c.args.self.now.store.now in
+    let plugin = c.args.self.now.term.now in
+    let block = c.args.self.now.block in
+    inr (subst (λ term. IsFirstBroken rows plugin block (Feature term)) (sym c.in_ok-copy_of-in-Some.ensures)
+    (among-first rows plugin block feature (λ term. not (is_supported c.args.self.now.block term)) (objects_of rows plugin Lv2RequiredFeature) c.in-Some.feature.now (test-feature rows plugin block) c.requires (sym c.in-Some.ensures)))
+
+pub returns-in-None : goal.returns-in-None
+returns-in-None c =
+    let rows = c.args.self.now.store.now in
+    let plugin = c.args.self.now.term.now in
+    let block = c.args.self.now.block in
+    kept-first rows plugin block feature _ (test-feature rows plugin block) c.requires (find-none (λ term. not (is_supported c.args.self.now.block term)) (objects_of rows plugin Lv2RequiredFeature) (sym c.in-None.ensures))

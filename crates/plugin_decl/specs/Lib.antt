@@ -1,0 +1,12 @@
+pub mod Vocabulary
+pub mod Objects
+pub mod Values
+pub mod Ports
+pub mod Declaration
+pub mod Features
+pub mod PortRules
+pub mod Rules
+pub mod Checks
+pub mod Valid
+pub mod Answer
+pub mod MessagePorts

@@ -1,0 +1,24 @@
+//! What a bundle's triples declare of an LV2 plug-in: its ports, features and properties, or the first rule that they break.
+#![tactic(auto)]
+
+mod checks;
+mod declaration;
+mod features;
+mod indexes;
+mod message_ports;
+mod objects;
+mod options;
+mod plugin;
+mod port;
+mod port_rules;
+mod reader;
+mod values;
+mod vocabulary;
+
+pub use declaration::{Decl, DeclFault, Port, PortKind};
+pub use message_ports::{patch_port, reply_port};
+pub use options::{Options, options_of};
+pub use reader::{declare, one_answer};
+
+#[cfg(test)]
+mod tests;

@@ -1,0 +1,160 @@
+ghost use Rattle.std.specs.Prelude.{◌≡◌, ◌≤◌, ℕ, List, length, map, IfOk, IfErr, OnOk};
+ghost use Rattle.triple_store.specs.declared.term.Term.{Term};
+ghost use Rattle.triple_store.specs.declared.term.Term.TheVariants.{Iri};
+ghost use Rattle.triple_store.specs.declared.term.Triple.{Triple};
+ghost use Rattle.plugin_decl.specs.declared.declaration.DeclFault.{DeclFault};
+ghost use Rattle.plugin_decl.specs.Declaration.{stated_version, version, extends, has_feature, is_safe, iris_of, ports_of, declared_ports, declaration_of};
+ghost use Rattle.plugin_decl.specs.Ports.{port_of};
+ghost use Rattle.plugin_decl.specs.Rules.{AreAllKept, IsFirstBroken, IsCause};
+ghost use Rattle.plugin_decl.specs.Checks.{Checked};
+ghost use Rattle.plugin_decl.specs.Answer.{IsDeclOrNoMemory, IsFaultOrNoMemory};
+ghost use Rattle.plugin_decl.specs.Valid.{IsValid};
+
+use crate::declaration::{Decl, DeclFault, Port};
+use crate::indexes::MOST_PORTS;
+use crate::objects::{first, has, objects};
+use crate::plugin::Plugin;
+use crate::port::{copy, port_of};
+use crate::port_rules::PortRule;
+use crate::values::{iri, name, natural};
+use crate::vocabulary::Word;
+use lv_base::{Items, NoMemory, Text};
+use std::alloc::Global;
+use triple_store::{Store, Term};
+
+/// What the triples of a store declare of a plug-in, or the first rule that they break; for blocks of `block` frames.
+///
+/// The rules are those of `DeclFault`, in its order. A feature or an option that isn't an IRI isn't supported.
+pub fn declare(alloc: Global, store: &Store, uri: &Text, block: u32) -> Result<Decl, DeclFault>
+    ensures kept { OnOk result (AreAllKept store.now (Iri uri.now) block) }
+    ensures value { IfOk result (λ decl. decl ≡ declaration_of store.now uri.now) }
+    ensures valid { IfOk result IsValid }
+    ensures err { IfErr result (IsCause store.now (Iri uri.now) block) }
+
+    // Every URI is answered: the only other answer is that memory was refused.
+    ensures declared { AreAllKept store.now (Iri uri.now) block → IsDeclOrNoMemory (declaration_of store.now uri.now) result }
+    ensures broken { (fault : DeclFault) → IsFirstBroken store.now (Iri uri.now) block fault → IsFaultOrNoMemory fault result }
+{
+    let term = iri_of(uri)?;
+    let plugin = Plugin {
+        store,
+        term: &term,
+        block,
+    };
+    plugin.declare(alloc, uri)
+}
+
+/// A law, and no step of a program: the triples of a URI have one answer.
+pub fn one_answer()
+    ensures fault { (rows : List Triple) (plugin : Term) (block : ℕ) (a b : DeclFault) → IsFirstBroken rows plugin block a → IsFirstBroken rows plugin block b → a ≡ b }
+    ensures not_both { (rows : List Triple) (plugin : Term) (block : ℕ) (fault : DeclFault) → AreAllKept rows plugin block → ¬ IsFirstBroken rows plugin block fault }
+{}
+
+fn iri_of(uri: &Text) -> Result<Term, NoMemory>
+    ensures { IfOk result (λ term. term ≡ Iri uri.now) }
+{
+    Ok(Term::Iri(uri.clone()?))
+}
+
+/// What is declared of each of some ports.
+fn declared(alloc: Global, store: &Store, nodes: &[Term]) -> Result<Items<Port>, NoMemory>
+    ensures { IfOk result (λ ports. ports ≡ map (port_of store.now) nodes.now) }
+{
+    let mut ports = Items::new(alloc);
+    for node in nodes {
+        ports.push(port_of(alloc, store, node)?)?;
+    }
+    Ok(ports)
+}
+
+impl<'a> Plugin<'a> {
+    fn declare(&self, alloc: Global, uri: &Text) -> Result<Decl, DeclFault>
+        requires { self.now.term.now ≡ Iri uri.now }
+        ensures checked { Checked self.now.store.now self.now.term.now self.now.block 13 result }
+        ensures value { IfOk result (λ decl. decl ≡ declaration_of self.now.store.now uri.now) }
+        ensures few { OnOk result (length (ports_of self.now.store.now self.now.term.now) ≤ MOST_PORTS) }
+    {
+        self.check_class()?;
+        let nodes = self.ports_by_index(alloc)?;
+        let ports = declared(alloc, self.store, nodes.as_slice())?;
+        self.check_ports(nodes.as_slice(), ports.as_slice())?;
+        self.check_features()?;
+        self.check_options()?;
+        self.check(PortRule::Value, nodes.as_slice())?;
+        let decl = self.declaration(alloc, uri, ports)?;
+        Ok(decl)
+    }
+
+    /// The declaration with these ports.
+    #[tactic(auto, unfolding(crate::specs::Declaration::declaration_of))]
+    fn declaration(&self, alloc: Global, uri: &Text, ports: Items<Port>) -> Result<Decl, NoMemory>
+        requires uri { self.now.term.now ≡ Iri uri.now }
+        requires ports { ports ≡ declared_ports self.now.store.now self.now.term.now }
+        ensures { IfOk result (λ decl. decl ≡ declaration_of self.now.store.now uri.now) }
+    {
+        let name = copy(alloc, name(self.store, self.term, Word::DoapName))?;
+        let reads = self.iris(alloc, Word::PatchReadable)?;
+        let writes = self.iris(alloc, Word::PatchWritable)?;
+        Ok(Decl {
+            uri: uri.clone()?,
+            name,
+            minor: self.version(Word::Lv2MinorVersion),
+            micro: self.version(Word::Lv2MicroVersion),
+            ports,
+            worker: self.extends(Word::WorkInterface),
+            state: self.extends(Word::StateInterface),
+            safe: self.is_safe(),
+            reads,
+            writes,
+        })
+    }
+
+    /// The first `lv2:minorVersion` or `lv2:microVersion`, if it is a number that fits.
+    #[tactic(auto, unfolding(crate::specs::Declaration::stated_version))]
+    fn stated_version(&self, word: Word) -> Option<u32>
+        ensures { result ≡ stated_version self.now.store.now self.now.term.now word }
+    {
+        natural(u32::MAX, first(self.store, self.term, word)?)
+    }
+
+    fn version(&self, word: Word) -> u32
+        ensures { result ≡ version self.now.store.now self.now.term.now word }
+    {
+        self.stated_version(word).unwrap_or(0)
+    }
+
+    /// Whether it has an extension's interface.
+    fn extends(&self, interface: Word) -> bool
+        ensures { result ≡ extends self.now.store.now self.now.term.now interface }
+    {
+        has(self.store, self.term, Word::Lv2ExtensionData, interface)
+    }
+
+    fn has_feature(&self, feature: Word) -> bool
+        ensures { result ≡ has_feature self.now.store.now self.now.term.now feature }
+    {
+        has(self.store, self.term, Word::Lv2RequiredFeature, feature)
+            || has(self.store, self.term, Word::Lv2OptionalFeature, feature)
+    }
+
+    fn is_safe(&self) -> bool
+        ensures { result ≡ is_safe self.now.store.now self.now.term.now }
+    {
+        let interfaces = self.extends(Word::WorkInterface) && self.extends(Word::StateInterface);
+        interfaces && self.has_feature(Word::StateThreadSafeRestore)
+    }
+
+    /// The IRIs among the objects of a predicate.
+    #[tactic(auto, unfolding(crate::specs::Declaration::iris_of))]
+    fn iris(&self, alloc: Global, word: Word) -> Result<Items<Text>, NoMemory>
+        ensures { IfOk result (λ iris. iris ≡ iris_of self.now.store.now self.now.term.now word) }
+    {
+        let mut iris = Items::new(alloc);
+        for object in objects(self.store, self.term, word) {
+            if let Some(iri) = iri(object) {
+                iris.push(iri.clone()?)?;
+            }
+        }
+        Ok(iris)
+    }
+}
