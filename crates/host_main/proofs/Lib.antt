@@ -3,3 +3,4 @@ pub mod Words
 pub mod Answers
 pub mod Mapped
 pub mod Lawful
+pub mod NoSession

@@ -2,7 +2,10 @@
 use Rattle.std.specs.Prelude.{◌≡◌, ◌≢◌, ℕ, ◌<◌, ◌≤◌, ◌⊎◌, IsTrue, List, [], ◌∷◌, ◌++◌, length, Some, None}
 use Rattle.lv_outside.specs.Count.{Rose}
 use Rattle.session_script.specs.declared.session.Session.{Session}
-use Rattle.session_script.specs.Script.{IsSessionOf, IsFirstBroken}
+use Rattle.session_script.specs.Script.{IsSessionOf, IsFirstBroken, IsPast}
+use Rattle.session_script.specs.FirstPath.Script.{IsSessionOf as IsFormed, IsFirstBroken as IsFirstUnformed}
+use Rattle.session_script.specs.declared.fault.ScriptRule.{ScriptRule}
+use Rattle.session_script.specs.declared.fault.Limit.{Limit}
 use Rattle.replay_core.specs.PlainRecord.{record_of}
 use Rattle.replay_core.specs.Play.{Meaning, sound_of}
 use Rattle.replay_core.specs.Summary.{summary_of}
@@ -13,7 +16,7 @@ use Rattle.host_main.specs.Files.{rendering, HoldsAll, HoldsBefore}
 use Rattle.host_main.specs.Status.{status_of, line_of, most_session_bytes}
 use Rattle.host_main.specs.declared.files.Rendering.{Rendering}
 use Rattle.host_main.specs.declared.refusal.Refusal.{Refusal}
-use Rattle.host_main.specs.declared.refusal.Refusal.TheVariants.{Usage, Missing, ReadFailed, WriteFailed, Script, TooLong, NoMemory}
+use Rattle.host_main.specs.declared.refusal.Refusal.TheVariants.{Usage, Missing, ReadFailed, WriteFailed, Script, Past, Later, TooLong, NoMemory}
 use Rattle.host_main.specs.declared.refusal.Target.{Target}
 use Rattle.host_main.specs.declared.refusal.Target.TheVariants.{Summary}
 
@@ -22,9 +25,16 @@ abbrev pub rendering_of : {F : Type 0} → Meaning F → List ℕ → Session �
 rendering_of code name s =
     let steps = record_of s in rendering name steps (sound_of code s steps) (summary_of s steps)
 
+-- A script says a session, and isn't of the form that can be played so far: this is the first line that isn't.
+pub record IsLater (bytes : List ℕ) (line : ℕ) : Type 0 where
+  pub s : Session
+  pub session : IsSessionOf bytes s
+  pub unformed : IsFirstUnformed bytes line
+
 -- the session that was read: the text of a known file, if the files are known
 pub record IsRead (path : List ℕ) (v : VaultState) (bytes : List ℕ) (s : Session) : Type 0 where
   pub session : IsSessionOf bytes s
+  pub formed : IsFormed bytes s
   pub short : length bytes ≤ most_session_bytes
   pub found : IsTrue v.tells → v.file path ≡ Some bytes
 
@@ -48,6 +58,14 @@ abbrev pub IsDone : {F : Type 0} → Meaning F → List ℕ → List ℕ → Vau
 IsDone code path name v v' k k' =
     (summary : List ℕ) × IsRendered code path name v v' summary × (IsTrue k.tells → k'.taken ≡ k.taken ++ summary)
 
+-- Why a script says no session that can be played so far. Want of memory has no cause.
+abbrev pub IsNoSession : List ℕ → Refusal → Type 0
+IsNoSession bytes (Script line rule) = IsFirstBroken bytes line rule
+IsNoSession bytes (Past which number) = IsPast bytes which number
+IsNoSession bytes (Later line) = IsLater bytes line
+IsNoSession bytes NoMemory = Unit {0}
+IsNoSession bytes refusal = ⊥
+
 -- Why no session was read. Want of memory has no cause.
 abbrev pub IsUnread : List ℕ → VaultState → VaultState → Refusal → Type 0
 IsUnread path v v' Missing = Rose v.absences v'.absences × (IsTrue v.tells → v.file path ≡ None)
@@ -55,8 +73,12 @@ IsUnread path v v' ReadFailed = Rose v.faults v'.faults
 IsUnread path v v' TooLong =
     Rose v.longs v'.longs
     × (IsTrue v.tells → (bytes : List ℕ) × (v.file path ≡ Some bytes) × (most_session_bytes < length bytes))
-IsUnread path v v' (Script line) =
-    (bytes : List ℕ) × IsFirstBroken bytes line × (length bytes ≤ most_session_bytes) × (IsTrue v.tells → v.file path ≡ Some bytes)
+IsUnread path v v' (Script line rule) =
+    (bytes : List ℕ) × IsFirstBroken bytes line rule × (length bytes ≤ most_session_bytes) × (IsTrue v.tells → v.file path ≡ Some bytes)
+IsUnread path v v' (Past which number) =
+    (bytes : List ℕ) × IsPast bytes which number × (length bytes ≤ most_session_bytes) × (IsTrue v.tells → v.file path ≡ Some bytes)
+IsUnread path v v' (Later line) =
+    (bytes : List ℕ) × IsLater bytes line × (length bytes ≤ most_session_bytes) × (IsTrue v.tells → v.file path ≡ Some bytes)
 IsUnread path v v' NoMemory = Unit {0}
 IsUnread path v v' Usage = ⊥
 IsUnread path v v' (WriteFailed target) = ⊥
@@ -103,8 +125,12 @@ pub record AnswersRender {F : Type 0} (code : Meaning F) (path name : List ℕ) 
   pub explained : Explains code path name v v' k k' answer
   pub absent : IsTrue v.tells → v.file path ≡ None → IsOneOf answer (2 ∷ 3 ∷ 14 ∷ [])
   pub long : IsTrue v.tells → (bytes : List ℕ) → v.file path ≡ Some bytes → most_session_bytes < length bytes → IsOneOf answer (9 ∷ 3 ∷ 14 ∷ [])
-  pub broken : IsTrue v.tells → (bytes : List ℕ) (line : ℕ) → v.file path ≡ Some bytes → length bytes ≤ most_session_bytes
-      → IsFirstBroken bytes line → IsOneOf answer (7 ∷ 3 ∷ 14 ∷ [])
+  pub broken : IsTrue v.tells → (bytes : List ℕ) (line : ℕ) (rule : ScriptRule) → v.file path ≡ Some bytes → length bytes ≤ most_session_bytes
+      → IsFirstBroken bytes line rule → IsOneOf answer (7 ∷ 3 ∷ 14 ∷ [])
+  pub past : IsTrue v.tells → (bytes : List ℕ) (which : Limit) (number : ℕ) → v.file path ≡ Some bytes → length bytes ≤ most_session_bytes
+      → IsPast bytes which number → IsOneOf answer (9 ∷ 3 ∷ 14 ∷ [])
+  pub later : IsTrue v.tells → (bytes : List ℕ) (line : ℕ) → v.file path ≡ Some bytes → length bytes ≤ most_session_bytes
+      → IsLater bytes line → IsOneOf answer (7 ∷ 3 ∷ 14 ∷ [])
   pub accepted : IsTrue v.tells → (bytes : List ℕ) (s : Session) → v.file path ≡ Some bytes → length bytes ≤ most_session_bytes
-      → IsSessionOf bytes s → IsOneOf answer (0 ∷ 3 ∷ 4 ∷ 14 ∷ [])
+      → IsSessionOf bytes s → IsFormed bytes s → IsOneOf answer (0 ∷ 3 ∷ 4 ∷ 14 ∷ [])
   pub formed : answer ≢ 1

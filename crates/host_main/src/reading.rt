@@ -1,13 +1,15 @@
 ghost use Rattle.std.specs.Prelude.{◌≡◌, ℕ, ◌≤◌, List, length, IfOk, IfErr, IsTrue, Some};
-ghost use Rattle.session_script.specs.Valid.{IsValid};
+ghost use Rattle.session_script.specs.FirstPath.Valid.{IsValid};
 ghost use Rattle.host_main.specs.Status.{most_session_bytes};
 ghost use Rattle.host_main.specs.World.{vault_at, LeavesFiles};
-ghost use Rattle.host_main.specs.Render.{IsRead, IsUnread};
+ghost use Rattle.session_script.specs.Script.{IsSessionOf};
+ghost use Rattle.session_script.specs.FirstPath.Script.{IsSessionOf as IsFormed};
+ghost use Rattle.host_main.specs.Render.{IsRead, IsNoSession, IsUnread};
 
 use crate::refusal::Refusal;
 use lv_base::{Bytes, Text};
 use lv_outside::{Fetch, Vault};
-use session_script::{ScriptFault, Session};
+use session_script::{Session, first_path};
 use std::alloc::Global;
 
 /// The most bytes of a session: 16 MiB.
@@ -28,11 +30,21 @@ pub fn read_session<V: Vault>(alloc: Global, path: &Text, vault: &mut V) -> Resu
     ensures later { V.faults vault.old ≤ V.faults vault.new }
 {
     let bytes = fetch(alloc, path, vault)?;
-    match session_script::read(alloc, bytes.as_slice()) {
-        Ok(session) => Ok(session),
-        Err(ScriptFault::Later(line)) => Err(Refusal::Script(line)),
-        Err(ScriptFault::NoMemory) => Err(Refusal::NoMemory),
-    }
+    let session = session_in(alloc, bytes.as_slice())?;
+    Ok(session)
+}
+
+// The session that a script says, if it is of the form that can be played so far.
+fn session_in(alloc: Global, bytes: &[u8]) -> Result<Session, Refusal>
+    requires { length bytes.now ≤ most_session_bytes }
+    ensures session { IfOk result (IsSessionOf bytes.now) }
+    ensures formed { IfOk result (IsFormed bytes.now) }
+    ensures valid { IfOk result IsValid }
+    ensures err { IfErr result (IsNoSession bytes.now) }
+{
+    session_script::read(alloc, bytes)?;
+    let session = first_path::read(alloc, bytes)?;
+    Ok(session)
 }
 
 // The whole file of a session.

@@ -1,8 +1,10 @@
 ghost use Rattle.std.specs.Prelude.{◌≡◌};
-ghost use Rattle.host_main.specs.Status.{status_of};
+ghost use Rattle.host_main.specs.Status.{status_of, refusal_of, refusal_of_form};
 ghost use Rattle.host_main.specs.declared.refusal.Refusal.TheVariants.{NoMemory};
 
 use lv_base::NoMemory as OutOfMemory;
+use session_script::first_path::FirstPathFault;
+use session_script::{Limit, ScriptFault, ScriptRule};
 
 /// The status of a run whose work was done and whose every write succeeded.
 pub const DONE: u8 = 0;
@@ -18,8 +20,12 @@ pub enum Refusal {
     ReadFailed,
     /// Something that the run writes couldn't be written.
     WriteFailed(Target),
-    /// The first line of the session that breaks its form, counted from 1.
-    Script(u32),
+    /// The first line of the session that breaks a rule, counted from 1, and the rule.
+    Script(u32, ScriptRule),
+    /// The first limit that the session passes, and the number that passes it.
+    Past(Limit, u64),
+    /// The first line of the session that can't be played yet, counted from 1.
+    Later(u32),
     /// The session is longer than its limit.
     TooLong,
     NoMemory,
@@ -44,8 +50,8 @@ impl Refusal {
             Refusal::Missing => 2,
             Refusal::ReadFailed => 3,
             Refusal::WriteFailed(_) => 4,
-            Refusal::Script(_) => 7,
-            Refusal::TooLong => 9,
+            Refusal::Script(..) | Refusal::Later(_) => 7,
+            Refusal::Past(..) | Refusal::TooLong => 9,
             Refusal::NoMemory => 14,
         }
     }
@@ -56,5 +62,28 @@ impl From<OutOfMemory> for Refusal {
 
     fn from(_: OutOfMemory) -> Self {
         Refusal::NoMemory
+    }
+}
+
+impl From<ScriptFault> for Refusal {
+    ghost from_gives = { λ fault refusal. refusal ≡ refusal_of fault };
+
+    fn from(fault: ScriptFault) -> Self {
+        match fault {
+            ScriptFault::Bad(line, rule) => Refusal::Script(line, rule),
+            ScriptFault::Limit(which, number) => Refusal::Past(which, number),
+            ScriptFault::NoMemory => Refusal::NoMemory,
+        }
+    }
+}
+
+impl From<FirstPathFault> for Refusal {
+    ghost from_gives = { λ fault refusal. refusal ≡ refusal_of_form fault };
+
+    fn from(fault: FirstPathFault) -> Self {
+        match fault {
+            FirstPathFault::Later(line) => Refusal::Later(line),
+            FirstPathFault::NoMemory => Refusal::NoMemory,
+        }
     }
 }

@@ -1,6 +1,6 @@
 ghost use Rattle.std.specs.Prelude.{◌≡◌, ◌<◌, IfOk, IfErr, OnOk};
 ghost use Rattle.session_script.specs.declared.session.Session.{Session};
-ghost use Rattle.session_script.specs.Valid.{IsValid};
+ghost use Rattle.session_script.specs.FirstPath.Valid.{IsValid};
 ghost use Rattle.replay_core.specs.Play.{meaning_of};
 ghost use Rattle.host_main.specs.World.{vault_at, sink_at};
 ghost use Rattle.host_main.specs.Render.{rendering_of, AnswersRender, Explains, IsDone, IsCaused, IsRendered, IsUnrendered, LeavesSink};
@@ -20,7 +20,8 @@ use std::alloc::Global;
 ///
 /// It answers 0 where the work was done and every write succeeded. Otherwise it puts the line of the refusal, and answers
 /// its status: 2 the session isn't there, 3 a read failed, 4 a write failed, 7 the first line of the session that breaks
-/// its form, 9 the session is longer than 16 MiB, 14 no memory.
+/// a rule of scripts, or the first that can't be played yet, 9 the session is longer than 16 MiB or passes a limit,
+/// 14 no memory.
 pub fn run_render<V: Vault, K: Sink, C: Codes>(
     alloc: Global,
     session: &Text,

@@ -138,7 +138,7 @@ const USAGE: &str =
     "lv2fx: 1 usage: check BUNDLE | render SESSION OUT | play SESSION OUT | replay SESSION RECORD OUT | gen NUMBER OUT\n";
 
 // Commands that are refused: their words, the session at `s`, the status and the line.
-const REFUSED: [(&[&str], &str, u8, &str); 5] = [
+const REFUSED: [(&[&str], &str, u8, &str); 7] = [
     (&[], CONST_TO_AMP, 1, USAGE),
     (&["render", "s"], CONST_TO_AMP, 1, USAGE),
     (
@@ -157,7 +157,19 @@ const REFUSED: [(&[&str], &str, u8, &str); 5] = [
         &["render", "s", "o"],
         "",
         7,
-        "lv2fx: 7 script line 1 later\n",
+        "lv2fx: 7 script line 1 head\n",
+    ),
+    (
+        &["render", "s", "o"],
+        "lv2fx 1\nblock 4\nblocks 65537\n",
+        7,
+        "lv2fx: 7 script line 3 range\n",
+    ),
+    (
+        &["render", "s", "o"],
+        "lv2fx 1\ninst a urn:x\nout a o\nout a o\nout a o\nout a o\nout a o\nout a o\nout a o\nout a o\nout a o\n",
+        9,
+        "lv2fx: 9 limit outputs 9\n",
     ),
 ];
 

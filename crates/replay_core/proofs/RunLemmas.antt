@@ -9,8 +9,8 @@ use Rattle.std.proofs.lemmas.List.Sums.{fold-append}
 use Rattle.std.proofs.lemmas.Option.{slice_get_read}
 use Rattle.session_script.specs.declared.session.Session.{Session}
 use Rattle.session_script.specs.declared.session.Inst.{Inst}
-use Rattle.session_script.specs.Stock.{IsStockUri}
-use Rattle.session_script.specs.Valid.{IsValid}
+use Rattle.session_script.specs.FirstPath.Stock.{IsStockUri}
+use Rattle.session_script.specs.FirstPath.Valid.{IsValid}
 use Rattle.step_record.specs.declared.actor.Actor.TheVariants.{Control}
 use Rattle.step_record.specs.declared.call.Call.TheVariants.{Deactivate, Cleanup}
 use Rattle.step_record.specs.declared.entry.Entry.{Entry}

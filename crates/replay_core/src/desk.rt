@@ -1,5 +1,5 @@
 ghost use Rattle.std.specs.Prelude.{◌≡◌, ◌<◌, length, slice_set, IfOk};
-ghost use Rattle.session_script.specs.Valid.{IsValid};
+ghost use Rattle.session_script.specs.FirstPath.Valid.{IsValid};
 ghost use Rattle.plug_api.specs.Outputs.{silenced, block_at};
 ghost use Rattle.plug_api.specs.Sound.{silence};
 ghost use Rattle.replay_core.specs.Signals.{inputs_at, uri_at};

@@ -1,5 +1,5 @@
 ghost use Rattle.std.specs.Prelude.{IfOk};
-ghost use Rattle.session_script.specs.Valid.{IsValid};
+ghost use Rattle.session_script.specs.FirstPath.Valid.{IsValid};
 ghost use Rattle.replay_core.specs.Play.{meaning_of};
 ghost use Rattle.replay_core.specs.Outcome.{IsOutcome};
 

@@ -1,6 +1,6 @@
 ghost use Rattle.std.specs.Prelude.{◌≡◌, ◌<◌, length, fold, filter, IfOk, ◌==◌};
 ghost use Rattle.session_script.specs.declared.session.SetLine.{SetLine};
-ghost use Rattle.session_script.specs.Valid.{IsValid};
+ghost use Rattle.session_script.specs.FirstPath.Valid.{IsValid};
 ghost use Rattle.replay_core.specs.Signals.{inputs_at, uri_at, value_of, ports_at};
 ghost use Rattle.replay_core.specs.Desk.{IsStrip};
 ghost use Rattle.plug_api.specs.Outputs.{block_at, with_block};

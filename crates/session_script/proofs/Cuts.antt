@@ -2,6 +2,7 @@
 use Rattle.std.proofs.Common.{◌≡◌, ℕ, suc, ◌+◌, ◌-◌, ◌<◌, ◌≤◌, Bool, true, false, not, cond, eqb, List, [], ◌∷◌, length, take, drop, get_or, refl, sym, ap, subst, Some, None, ◌∙◌, ⊎_elim, arith}
 use Rattle.std.specs.List.{filter, slice_split, position, position_or_len, All}
 use Rattle.std.specs.Option.{unwrap_or}
+use Rattle.std.specs.Str.{IsCharBoundary}
 use Rattle.std.proofs.lemmas.Bool.Decides.{leb_tells, nat_tests}
 use Rattle.std.proofs.lemmas.Bool.{cases_lt}
 use Rattle.std.proofs.lemmas.List.{drop_more, drop_all, take_all, take_rest, length-take-le}
@@ -10,6 +11,9 @@ use Rattle.std.proofs.lemmas.List.Splits.{slice_split-cons_yes, slice_split_firs
 use Rattle.std.proofs.lemmas.List.Sums.{prefix_len_passes, prefix_len_stops, prefix_len-le-length}
 use borrow.Author.Tests.{ne_eqb}
 use Rattle.session_script.specs.Words.{is_blank, is_word, words}
+
+low : (byte : ℕ) → is_blank byte ≡ true → byte < 128
+low byte h = grind (arith, nat_tests)
 
 not-true : (b : Bool) → not b ≡ true → b ≡ false
 not-true true h = sym h
@@ -66,3 +70,21 @@ within_line line = prefix_len-le-length (λ byte. not (is_blank byte)) line
 
 pub nonempty : (line : List ℕ) (empty : Bool) → empty ≡ eqb (length line) 0 → empty ≡ false → 0 < length line
 nonempty line empty e h = grind (arith, nat_tests)
+
+-- the front of a line, as the code takes it
+pub front : (line : List ℕ) (n : ℕ) → take (n - 0) (drop 0 line) ≡ take n line
+front line n = let e : n - 0 ≡ n = omega arith in ap (λ m. take m line) e
+
+-- a line may be cut behind its first word
+pub word_boundary : (line : List ℕ) (n : ℕ) → n ≡ position_or_len is_blank line → IsCharBoundary line n
+word_boundary line n e =
+    let k : ℕ = position_or_len is_blank line in
+    let within : k ≤ length line = within_line line in
+    let P : ℕ → Type 0 = λ m. IsCharBoundary line m in
+    subst P (sym e) (
+      within,
+      λ l high. absurd (
+          let blank : is_blank (get_or line k 0) ≡ true = not-false _ (prefix_len_stops (λ byte. not (is_blank byte)) line 0 l) in
+          let small = low (get_or line k 0) blank in
+          omega (arith, small, high)),
+    )

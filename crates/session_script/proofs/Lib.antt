@@ -1,9 +1,13 @@
+pub mod Adding
+pub mod Blanks
+pub mod Bounds
 pub mod Cuts
+pub mod Finds
+pub mod FirstPath
 pub mod Forms
 pub mod Laws
-pub mod Names
 pub mod Numerals
-pub mod Places
-pub mod Pushes
 pub mod Reading
+pub mod Rosters
+pub mod Segments
 pub mod Validity

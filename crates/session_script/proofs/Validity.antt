@@ -1,283 +1,282 @@
 -- Every session that a script says is valid.
-use Rattle.std.proofs.Common.{◌≡◌, ℕ, zero, suc, ◌+◌, ◌<◌, ◌≤◌, Bool, true, false, cond, Option, Some, None, List, [], ◌∷◌, ◌++◌, length, take, get_or, refl, sym, ap, subst, ◌∙◌, inl, inr, arith, add-one, Result, Ok, Err}
-use Rattle.std.specs.Prelude.{IfOk, IfSome, IsTrue, unwrap_or, not, ◌&&◌, ◌||◌, nat_lt, nat_le, codes, if◌then◌else◌}
-use Rattle.std.specs.List.{All, list_all}
-use Rattle.std.specs.Option.{option_map_or}
-use Rattle.std.specs.Result.{result_ok}
-use Rattle.std.specs.Int.{is_in_range}
-use Rattle.std.specs.Char.{is_ascii_digit}
+use Rattle.std.proofs.Common.{◌≡◌, ℕ, zero, suc, ◌+◌, ◌-◌, ◌*◌, ◌^◌, ◌<◌, ◌≤◌, Bool, true, false, cond, not, Option, Some, None, List, [], ◌∷◌, ◌++◌, length, take, get_or, refl, sym, ap, subst, ◌∙◌, ⊎_elim, arith, add-one, Result, Ok, Err}
+use Rattle.std.specs.Prelude.{IfOk, IfSome, unwrap_or, ◌&&◌, nat_lt, map, filter, slice_get, codes}
+use Rattle.std.specs.Option.{option_map, option_map_or}
+use Rattle.std.specs.List.{All, find}
 use Rattle.std.specs.Str.{bytes_eq}
-use Rattle.std.specs.Str.Lines.{lines}
-use Rattle.std.proofs.lemmas.Bool.{false≢true}
-use Rattle.std.proofs.lemmas.Slice.Eq.{bytes_eq-Decides}
-use Rattle.std.proofs.lemmas.List.{take_more, take_all, length-take-le, length_push}
-use Rattle.std.proofs.lemmas.List.Elements.{All-nil, All-push, All-weaker, All-get_or, All-map, All-from_get_or}
-use borrow.Author.Tests.{leb-true, ltb-true}
+use Rattle.std.proofs.Math.ListN.{get_or-append}
+use Rattle.std.proofs.lemmas.Bool.{cases_lt, ltb-false}
+use Rattle.std.proofs.lemmas.List.{take_all, length_push, length-map, map_push, get_or_push}
+use Rattle.std.proofs.lemmas.List.Elements.{All-nil, All-push, All-weaker}
+use borrow.Author.Tests.{ltb-true}
 use Rattle.session_script.specs.declared.session.Inst.{Inst}
 use Rattle.session_script.specs.declared.session.SetLine.{SetLine}
 use Rattle.session_script.specs.declared.session.CableLine.{CableLine}
 use Rattle.session_script.specs.declared.session.OutLine.{OutLine}
+use Rattle.session_script.specs.declared.session.Action.{Action}
 use Rattle.session_script.specs.declared.session.Session.{Session}
+use Rattle.session_script.specs.declared.session.Deed.TheVariants.{PatchFixed, PatchInt}
+use Rattle.session_script.specs.declared.fault.Limit.TheVariants.{Bundles}
+use Rattle.session_script.specs.declared.numbers.Numbers.{Numbers}
 use Rattle.session_script.specs.declared.draft.Draft.{Draft}
-use Rattle.session_script.specs.Stock.{IsStockUri, const_uri, amp_uri}
-use Rattle.session_script.specs.Valid.{IsValid, LeadsOn}
-use Rattle.session_script.specs.Words.{words, is_word, value_of, number_in, is_comment, is_name}
-use Rattle.session_script.specs.Line.{Line, line_of, line_by, lines_of, header_of, block_of, blocks_of, inst_of, set_of, cable_of, out_of, is_stock_uri}
-use Rattle.session_script.specs.Line.Line.{skipped, header, block, blocks, inst, set, cable, out, other}
-use Rattle.lv_base.specs.Decimal.{fixed_of}
-use Rattle.session_script.specs.Draft.{place, draft_of}
-use Rattle.session_script.specs.Fits.{fits, in_order, is_there, is_control, leads_on, uri_at, control_of}
-use Rattle.session_script.specs.declared.fault.ScriptFault.{ScriptFault}
+use Rattle.session_script.specs.declared.keyword.Setting.TheVariants.{Rate, Block, Blocks, Workers, Cells, Record}
+use Rattle.session_script.specs.Words.{value_of, is_name}
+use Rattle.session_script.specs.Sorts.{is_iri, fixed_value, integer_value}
+use Rattle.session_script.specs.Places.{place, is_there}
+use Rattle.session_script.specs.Line.{Line, Act}
+use Rattle.session_script.specs.Line.Act.{set_value, patch_set, patch_get, save, restore}
+use Rattle.session_script.specs.Line.Line.{inst, set, cable, out, at}
+use Rattle.session_script.specs.Draft.{draft_of, deed_of, inst_in, set_in, cable_in, out_in, action_in, workers_in, blocks_in}
+use Rattle.session_script.specs.Limits.{AreInBounds, Count, counts, is_save, passed, workers_or_default, blocks_or_default}
+use Rattle.session_script.specs.Rules.{broken_rule, block_reached}
+use Rattle.session_script.specs.Step.{added, or_given, with_number, with_line}
+use Rattle.session_script.specs.Valid.{IsBetween, IsInstValid, IsDeedValid, IsActionValid, Rise, block_of, IsValid}
+use Rattle.session_script.specs.Script.{AreWell, IsWhole, line_at, session_from, session_of}
 use Rattle.session_script.specs.Answer.{ReadsText}
-use Rattle.session_script.specs.Step.{with_line}
-use Rattle.session_script.specs.Script.{FitUpTo, IsWhole, line_at, session_of}
-use Rattle.session_script.proofs.Pushes.{both, draft_of-push}
+use Rattle.session_script.specs.declared.fault.ScriptFault.{ScriptFault}
+use Rattle.session_script.proofs.Reading.{draft_of-more, none_bounded}
+use Rattle.session_script.proofs.Bounds.{bounds_more, worker_within, block_within}
+use Rattle.session_script.proofs.Finds.{find_none, not_misnamed, not_unknown, not_iri, both, not-false}
 
--- what a line by itself keeps within its limits
-abbrev IsFormed : Line → Type 0
-IsFormed (block frames) = (1 ≤ frames) × (frames ≤ 4096)
-IsFormed (blocks count) = count ≤ 1024
-IsFormed (inst name uri) = IsStockUri uri
-IsFormed _ = Unit {0}
+-- ---- what one line keeps
 
-by_cases : (P : Line → Type 0) (b : Bool) (x y : Line) → (b ≡ true → P x) → P y → P (cond b x y)
-by_cases P true x y p q = p refl
-by_cases P false x y p q = q
+only_true : (b : Bool) → (b && true) ≡ true → b ≡ true
+only_true b h = (both b true h).0
 
-in_limits : (least most : ℕ) (word : List ℕ) (n : ℕ) → number_in least most word ≡ Some n → (least ≤ n) × (n ≤ most)
-in_limits least most word n h = given (is_word word && list_all is_ascii_digit word) (is_in_range least most (value_of word)) refl h
-  where
-    given : (a b : Bool) → is_in_range least most (value_of word) ≡ b → cond (a && b) (Some (value_of word)) None ≡ Some n → (least ≤ n) × (n ≤ most)
-    given true true e k =
-        let same : value_of word ≡ n = cc in
-        let tests = both (nat_le least (value_of word)) (nat_le (value_of word) most) e in
-        let low = leb-true least (value_of word) tests.0 in
-        let high = leb-true (value_of word) most tests.1 in
-        (omega arith, omega arith)
-    given true false e k = absurd (cc)
-    given false b e k = absurd (cc)
+there : (insts : List Inst) (name : List ℕ) → is_there insts name ≡ true → place insts name < length insts
+there insts name h = ltb-true (place insts name) (length insts) h
 
-number_formed : (kind : ℕ → Line) (least most : ℕ) (word : List ℕ) → ((n : ℕ) → least ≤ n → n ≤ most → IsFormed (kind n)) → (o : Option ℕ) → number_in least most word ≡ o → IsFormed (option_map_or kind o other)
-number_formed kind least most word f None e = tt
-number_formed kind least most word f (Some n) e = let r = in_limits least most word n e in f n r.0 r.1
+inst_valid : (d : Draft) (n : ℕ) (name uri : List ℕ) (worker : Option (List ℕ)) → broken_rule d (inst name uri worker) ≡ None
+    → IsInstValid (workers_or_default d.numbers) (record { name = name; uri = uri; worker = option_map value_of worker; line = n })
+inst_valid d n name uri None h = record {
+  name = only_true (is_name name) (not-false _ (not_misnamed d (inst name uri None) h));
+  uri = only_true (is_iri uri) (not-false _ (not_iri d (inst name uri None) h));
+  worker = tt;
+}
+inst_valid d n name uri (Some worker) h = record {
+  name = only_true (is_name name) (not-false _ (not_misnamed d (inst name uri (Some worker)) h));
+  uri = only_true (is_iri uri) (not-false _ (not_iri d (inst name uri (Some worker)) h));
+  worker = worker_within d name uri worker h;
+}
 
-stock : (uri : List ℕ) → is_stock_uri uri ≡ true → IsStockUri uri
-stock uri h = given (bytes_eq uri const_uri) refl h
-  where
-    given : (b : Bool) → bytes_eq uri const_uri ≡ b → (b || bytes_eq uri amp_uri) ≡ true → IsStockUri uri
-    given true e k = inl ((bytes_eq-Decides uri const_uri).0 e)
-    given false e k = inr ((bytes_eq-Decides uri amp_uri).0 k)
+patched : (property form value : List ℕ) (b : Bool) → is_iri property ≡ true → IsDeedValid (cond b (PatchFixed property (fixed_value value)) (PatchInt property (integer_value value)))
+patched property form value true h = h
+patched property form value false h = h
 
-header_formed : (ws : List (List ℕ)) → IsFormed (header_of ws)
-header_formed [] = tt
-header_formed (version ∷ []) = by_cases IsFormed _ header other (λ _. tt) tt
-header_formed (version ∷ w ∷ ws) = tt
+deed_valid : (d : Draft) (block name : List ℕ) (act : Act) → broken_rule d (at block name act) ≡ None → IsDeedValid (deed_of act)
+deed_valid d block name (set_value symbol decimal) h = tt
+deed_valid d block name (patch_set property form value) h =
+    patched property form value (bytes_eq form (codes "fixed")) (only_true (is_iri property) (not-false _ (not_iri d (at block name (patch_set property form value)) h)))
+deed_valid d block name (patch_get None) h = tt
+deed_valid d block name (patch_get (Some property)) h = only_true (is_iri property) (not-false _ (not_iri d (at block name (patch_get (Some property))) h))
+deed_valid d block name save h = tt
+deed_valid d block name (restore path place) h = tt
 
-block_formed : (ws : List (List ℕ)) → IsFormed (block_of ws)
-block_formed [] = tt
-block_formed (number ∷ []) = number_formed block 1 4096 number (λ n low high. (low, high)) (number_in 1 4096 number) refl
-block_formed (number ∷ w ∷ ws) = tt
+-- ---- what the draft keeps
 
-blocks_formed : (ws : List (List ℕ)) → IsFormed (blocks_of ws)
-blocks_formed [] = tt
-blocks_formed (number ∷ []) = number_formed blocks 0 1024 number (λ n low high. high) (number_in 0 1024 number) refl
-blocks_formed (number ∷ w ∷ ws) = tt
+pub record Keeps (d : Draft) : Type 0 where
+  pub bounds : AreInBounds d.numbers
+  pub insts : All (IsInstValid (workers_or_default d.numbers)) d.insts
+  pub sets : All (λ (one : SetLine). one.inst < length d.insts) d.sets
+  pub cables : All (λ (one : CableLine). (one.source < length d.insts) × (one.target < length d.insts)) d.cables
+  pub outs : All (λ (one : OutLine). one.inst < length d.insts) d.outs
+  pub actions : All (IsActionValid (length d.insts) (blocks_or_default d.numbers)) d.actions
+  pub in_order : Rise (map block_of d.actions)
 
-inst_formed : (ws : List (List ℕ)) → IsFormed (inst_of ws)
-inst_formed [] = tt
-inst_formed (name ∷ []) = tt
-inst_formed (name ∷ uri ∷ []) = by_cases IsFormed (is_name name && is_stock_uri uri) (inst name uri) other (λ h. stock uri (both (is_name name) (is_stock_uri uri) h).1) tt
-inst_formed (name ∷ uri ∷ w ∷ ws) = tt
+-- a number that is given once stays
+default_more : (low high default : ℕ) (o p : Option ℕ) → IfSome (or_given o p) (λ n. (low ≤ n) × (n ≤ high)) → default ≤ low → unwrap_or o default ≤ unwrap_or (or_given o p) default
+default_more low high default None None h d = omega arith
+default_more low high default None (Some n) h d = omega (arith, h.0)
+default_more low high default (Some m) None h d = omega arith
+default_more low high default (Some m) (Some n) h d = omega arith
 
-set_formed : (ws : List (List ℕ)) → IsFormed (set_of ws)
-set_formed [] = tt
-set_formed (name ∷ []) = tt
-set_formed (name ∷ symbol ∷ []) = tt
-set_formed (name ∷ symbol ∷ decimal ∷ []) = elim (result_ok (fixed_of decimal)) as (λ o. IsFormed (option_map_or (set name symbol) o other)) [ None ↦ tt | Some value ↦ tt ]
-set_formed (name ∷ symbol ∷ decimal ∷ w ∷ ws) = tt
+workers_more : (n : Numbers) (line : Line) → AreInBounds (with_number n line) → workers_or_default n ≤ workers_or_default (with_number n line)
+workers_more n line b = default_more 1 8 1 n.workers (workers_in line) (b Workers) (omega arith)
 
-cable_formed : (ws : List (List ℕ)) → IsFormed (cable_of ws)
-cable_formed [] = tt
-cable_formed (source ∷ []) = tt
-cable_formed (source ∷ output ∷ []) = tt
-cable_formed (source ∷ output ∷ target ∷ []) = tt
-cable_formed (source ∷ output ∷ target ∷ input ∷ []) = by_cases IsFormed _ (cable source target) other (λ _. tt) tt
-cable_formed (source ∷ output ∷ target ∷ input ∷ w ∷ ws) = tt
+blocks_more : (n : Numbers) (line : Line) → AreInBounds (with_number n line) → blocks_or_default n ≤ blocks_or_default (with_number n line)
+blocks_more n line b = default_more 0 65536 0 n.blocks (blocks_in line) (b Blocks) (omega arith)
 
-out_formed : (ws : List (List ℕ)) → IsFormed (out_of ws)
-out_formed [] = tt
-out_formed (name ∷ []) = tt
-out_formed (name ∷ output ∷ []) = by_cases IsFormed _ (out name) other (λ _. tt) tt
-out_formed (name ∷ output ∷ w ∷ ws) = tt
+-- a list with what a line adds
+All-added : {X : Type 0} (P Q : X → Type 0) (xs : List X) (o : Option X) → ((x : X) → P x → Q x) → All P xs → IfSome o Q → All Q (added xs o)
+All-added P Q xs None weaker all h = All-weaker P Q weaker xs all
+All-added P Q xs (Some x) weaker all h = All-push Q xs x (All-weaker P Q weaker xs all) h
 
-branch : (b : Bool) (x y : Line) → IsFormed x → IsFormed y → IsFormed (cond b x y)
-branch true x y p q = p
-branch false x y p q = q
+length-added : {X : Type 0} (xs : List X) (o : Option X) → length xs ≤ length (added xs o)
+length-added xs None = omega arith
+length-added xs (Some x) = omega (arith, length_push xs x)
 
--- what each of seven choices is, the one that is taken is
-choices : (b1 b2 b3 b4 b5 b6 b7 : Bool) (x1 x2 x3 x4 x5 x6 x7 : Line) → IsFormed x1 → IsFormed x2 → IsFormed x3 → IsFormed x4 → IsFormed x5 → IsFormed x6 → IsFormed x7 → IsFormed (if b1 then x1 else (if b2 then x2 else (if b3 then x3 else (if b4 then x4 else (if b5 then x5 else (if b6 then x6 else (if b7 then x7 else other)))))))
-choices true b2 b3 b4 b5 b6 b7 x1 x2 x3 x4 x5 x6 x7 h1 h2 h3 h4 h5 h6 h7 = h1
-choices false true b3 b4 b5 b6 b7 x1 x2 x3 x4 x5 x6 x7 h1 h2 h3 h4 h5 h6 h7 = h2
-choices false false true b4 b5 b6 b7 x1 x2 x3 x4 x5 x6 x7 h1 h2 h3 h4 h5 h6 h7 = h3
-choices false false false true b5 b6 b7 x1 x2 x3 x4 x5 x6 x7 h1 h2 h3 h4 h5 h6 h7 = h4
-choices false false false false true b6 b7 x1 x2 x3 x4 x5 x6 x7 h1 h2 h3 h4 h5 h6 h7 = h5
-choices false false false false false true b7 x1 x2 x3 x4 x5 x6 x7 h1 h2 h3 h4 h5 h6 h7 = h6
-choices false false false false false false true x1 x2 x3 x4 x5 x6 x7 h1 h2 h3 h4 h5 h6 h7 = h7
-choices false false false false false false false x1 x2 x3 x4 x5 x6 x7 h1 h2 h3 h4 h5 h6 h7 = tt
+some_weaker : {X : Type 0} (P Q : X → Type 0) → ((x : X) → P x → Q x) → (o : Option X) → IfSome o P → IfSome o Q
+some_weaker P Q weaker None h = tt
+some_weaker P Q weaker (Some x) h = weaker x h
 
-line_formed : (ws : List (List ℕ)) → IsFormed (line_of ws)
-line_formed [] = tt
-line_formed (keyword ∷ rest) =
-    branch (is_comment keyword) skipped (line_by keyword rest) tt
-    (choices (bytes_eq keyword (codes "lv2fx")) (bytes_eq keyword (codes "block")) (bytes_eq keyword (codes "blocks")) (bytes_eq keyword (codes "inst")) (bytes_eq keyword (codes "set")) (bytes_eq keyword (codes "cable")) (bytes_eq keyword (codes "out"))
-    (header_of rest) (block_of rest) (blocks_of rest) (inst_of rest) (set_of rest) (cable_of rest) (out_of rest)
-    (header_formed rest) (block_formed rest) (blocks_formed rest) (inst_formed rest) (set_formed rest) (cable_formed rest) (out_formed rest))
+worker_weaker : (m n : ℕ) → m ≤ n → (o : Option ℕ) → IfSome o (IsBetween 1 m) → IfSome o (IsBetween 1 n)
+worker_weaker m n l None h = tt
+worker_weaker m n l (Some w) h = (h.0, omega (arith, h.1))
 
-formed : (script : List ℕ) → All IsFormed (lines_of script)
-formed script = All-map IsFormed (λ (line : List ℕ). line_of (words line)) (lines script)
-    (All-from_get_or (λ line. IsFormed (line_of (words line))) (lines script) [] (λ i l. line_formed (words (get_or (lines script) i []))))
+inst_weaker : (m n : ℕ) → m ≤ n → (one : Inst) → IsInstValid m one → IsInstValid n one
+inst_weaker m n l one h = record { name = h.name; uri = h.uri; worker = worker_weaker m n l one.worker h.worker }
 
--- what a draft keeps within its limits
-record Kept (d : Draft) : Type 0 where
-  block : IfSome d.block (λ frames. (1 ≤ frames) × (frames ≤ 4096))
-  blocks : IfSome d.blocks (λ count. count ≤ 1024)
-  few_insts : length d.insts ≤ 32
-  few_cables : length d.cables ≤ 256
-  few_outs : length d.outs ≤ 8
-  stock : All (λ (one : Inst). IsStockUri one.uri) d.insts
-  sets : All (λ (one : SetLine). one.inst < length d.insts) d.sets
-  cables : All (LeadsOn (length d.insts)) d.cables
-  outs : All (λ (one : OutLine). one.inst < length d.insts) d.outs
+action_weaker : (i j b c : ℕ) → i ≤ j → b ≤ c → (one : Action) → IsActionValid i b one → IsActionValid j c one
+action_weaker i j b c l m one h = record { inst = let low = h.inst in omega arith; block = let low = h.block in omega arith; deed = h.deed }
 
-kept_none : Kept (draft_of [])
-kept_none = record {
-  block = tt;
-  blocks = tt;
-  few_insts = omega arith;
-  few_cables = omega arith;
-  few_outs = omega arith;
-  stock = All-nil (λ (one : Inst). IsStockUri one.uri);
+new_inst : (d : Draft) (n : ℕ) (line : Line) → broken_rule d line ≡ None → IfSome (inst_in (n, line)) (IsInstValid (workers_or_default d.numbers))
+new_inst d n (inst name uri worker) h = inst_valid d n name uri worker h
+new_inst d n line h = tt
+
+new_set : (d : Draft) (n : ℕ) (line : Line) → broken_rule d line ≡ None → IfSome (set_in d.insts (n, line)) (λ one. one.inst < length d.insts)
+new_set d n (set name symbol decimal) h = there d.insts name (only_true (is_there d.insts name) (not-false _ (not_unknown d (set name symbol decimal) h)))
+new_set d n line h = tt
+
+new_cable : (d : Draft) (n : ℕ) (line : Line) → broken_rule d line ≡ None → IfSome (cable_in d.insts (n, line)) (λ one. (one.source < length d.insts) × (one.target < length d.insts))
+new_cable d n (cable source output target input delayed) h =
+    let t = both (is_there d.insts source) (is_there d.insts target && true) (not-false _ (not_unknown d (cable source output target input delayed) h)) in
+    (there d.insts source t.0, there d.insts target (only_true (is_there d.insts target) t.1))
+new_cable d n line h = tt
+
+new_out : (d : Draft) (n : ℕ) (line : Line) → broken_rule d line ≡ None → IfSome (out_in d.insts (n, line)) (λ one. one.inst < length d.insts)
+new_out d n (out name symbol) h = there d.insts name (only_true (is_there d.insts name) (not-false _ (not_unknown d (out name symbol) h)))
+new_out d n line h = tt
+
+new_action : (d : Draft) (n : ℕ) (line : Line) → broken_rule d line ≡ None → IfSome (action_in d.insts (n, line)) (IsActionValid (length d.insts) (blocks_or_default d.numbers))
+new_action d n (at block name act) h = record {
+  inst = there d.insts name (only_true (is_there d.insts name) (not-false _ (not_unknown d (at block name act) h)));
+  block = (block_within d block name act h).1;
+  deed = deed_valid d block name act h;
+}
+new_action d n line h = tt
+
+-- ---- blocks that don't fall
+
+nth_block : (actions : List Action) (k : ℕ) → option_map_or (λ (action : Action). action.block) (slice_get actions k) 0 ≡ get_or (map block_of actions) k 0
+nth_block [] zero = refl
+nth_block [] (suc k) = refl
+nth_block (action ∷ actions) zero = refl
+nth_block (action ∷ actions) (suc k) = nth_block actions k
+
+rise_push : (ns : List ℕ) (n : ℕ) → Rise ns → get_or ns (length ns - 1) 0 ≤ n → Rise (ns ++ n ∷ [])
+rise_push ns n rise low = λ k below. ⊎_elim
+    (λ l. let before : k < length ns = omega arith in
+    let left : get_or (ns ++ n ∷ []) k 0 ≡ get_or ns k 0 = get_or-append ns (n ∷ []) 0 k before in
+    let right : get_or (ns ++ n ∷ []) (k + 1) 0 ≡ get_or ns (k + 1) 0 = get_or-append ns (n ∷ []) 0 (k + 1) l in
+    let up : get_or ns k 0 ≤ get_or ns (k + 1) 0 = rise k l in
+    omega (arith, left, right, up))
+    (λ l. let more : length (ns ++ n ∷ []) ≡ length ns + 1 = length_push ns n in
+    let end : length ns ≡ k + 1 = omega (arith, more, below) in
+    let before : k < length ns = omega arith in
+    let last : length ns - 1 ≡ k = omega arith in
+    let left : get_or (ns ++ n ∷ []) k 0 ≡ get_or ns k 0 = get_or-append ns (n ∷ []) 0 k before in
+    let right : get_or (ns ++ n ∷ []) (k + 1) 0 ≡ n = get_or_push ns n 0 (k + 1) end in
+    let high : get_or ns k 0 ≤ n = subst (λ j. get_or ns j 0 ≤ n) last low in
+    omega (arith, left, right, high))
+    (cases_lt (k + 1) (length ns))
+
+in_order_more : (d : Draft) (n : ℕ) (line : Line) → broken_rule d line ≡ None → Rise (map block_of d.actions) → Rise (map block_of (added d.actions (action_in d.insts (n, line))))
+in_order_more d n (at block name act) h rise =
+    let new : Action = record { block = value_of block; inst = place d.insts name; deed = deed_of act; line = n } in
+    let low = (block_within d block name act h).0 in
+    let same : length (map block_of d.actions) ≡ length d.actions = length-map d.actions block_of in
+    let last : block_reached d.actions ≡ get_or (map block_of d.actions) (length (map block_of d.actions) - 1) 0 =
+    nth_block d.actions (length d.actions - 1) ∙ ap (λ m. get_or (map block_of d.actions) (m - 1) 0) (sym same) in
+    let high : get_or (map block_of d.actions) (length (map block_of d.actions) - 1) 0 ≤ value_of block = omega (arith, last, low) in
+    subst Rise (sym (map_push block_of d.actions new)) (rise_push (map block_of d.actions) (value_of block) rise high)
+in_order_more d n line h rise = rise
+
+keeps_more : (d : Draft) (n : ℕ) (line : Line) → broken_rule d line ≡ None → Keeps d → Keeps (with_line d n line)
+keeps_more d n line h k =
+    let bounds = bounds_more d line h k.bounds in
+    let workers = workers_more d.numbers line bounds in
+    let blocks = blocks_more d.numbers line bounds in
+    let more = length-added d.insts (inst_in (n, line)) in
+    let grown = added d.insts (inst_in (n, line)) in
+    record {
+      bounds = bounds;
+      insts = All-added (IsInstValid (workers_or_default d.numbers)) (IsInstValid (workers_or_default (with_number d.numbers line))) d.insts (inst_in (n, line))
+          (inst_weaker (workers_or_default d.numbers) (workers_or_default (with_number d.numbers line)) workers) k.insts (some_weaker (IsInstValid (workers_or_default d.numbers)) (IsInstValid (workers_or_default (with_number d.numbers line))) (inst_weaker (workers_or_default d.numbers) (workers_or_default (with_number d.numbers line)) workers) (inst_in (n, line)) (new_inst d n line h));
+      sets = All-added (λ (one : SetLine). one.inst < length d.insts) (λ (one : SetLine). one.inst < length grown) d.sets (set_in d.insts (n, line))
+          (λ one low. omega (arith, low, more)) k.sets (some_weaker (λ (one : SetLine). one.inst < length d.insts) (λ (one : SetLine). one.inst < length grown) (λ one low. omega (arith, low, more)) (set_in d.insts (n, line)) (new_set d n line h));
+      cables = All-added (λ (one : CableLine). (one.source < length d.insts) × (one.target < length d.insts)) (λ (one : CableLine). (one.source < length grown) × (one.target < length grown)) d.cables (cable_in d.insts (n, line))
+          (λ one low. (omega (arith, low.0, more), omega (arith, low.1, more))) k.cables
+          (some_weaker (λ (one : CableLine). (one.source < length d.insts) × (one.target < length d.insts)) (λ (one : CableLine). (one.source < length grown) × (one.target < length grown)) (λ one low. (omega (arith, low.0, more), omega (arith, low.1, more))) (cable_in d.insts (n, line)) (new_cable d n line h));
+      outs = All-added (λ (one : OutLine). one.inst < length d.insts) (λ (one : OutLine). one.inst < length grown) d.outs (out_in d.insts (n, line))
+          (λ one low. omega (arith, low, more)) k.outs (some_weaker (λ (one : OutLine). one.inst < length d.insts) (λ (one : OutLine). one.inst < length grown) (λ one low. omega (arith, low, more)) (out_in d.insts (n, line)) (new_out d n line h));
+      actions = All-added (IsActionValid (length d.insts) (blocks_or_default d.numbers)) (IsActionValid (length grown) (blocks_or_default (with_number d.numbers line))) d.actions (action_in d.insts (n, line))
+          (action_weaker (length d.insts) (length grown) (blocks_or_default d.numbers) (blocks_or_default (with_number d.numbers line)) more blocks) k.actions
+          (some_weaker (IsActionValid (length d.insts) (blocks_or_default d.numbers)) (IsActionValid (length grown) (blocks_or_default (with_number d.numbers line))) (action_weaker (length d.insts) (length grown) (blocks_or_default d.numbers) (blocks_or_default (with_number d.numbers line)) more blocks) (action_in d.insts (n, line)) (new_action d n line h));
+      in_order = in_order_more d n line h k.in_order;
+    }
+
+none_keeps : Keeps (draft_of [])
+none_keeps = record {
+  bounds = none_bounded;
+  insts = All-nil (IsInstValid 1);
   sets = All-nil (λ (one : SetLine). one.inst < 0);
-  cables = All-nil (LeadsOn 0);
+  cables = All-nil (λ (one : CableLine). (one.source < 0) × (one.target < 0));
   outs = All-nil (λ (one : OutLine). one.inst < 0);
+  actions = All-nil (IsActionValid 0 0);
+  in_order = λ k below. absurd (omega arith);
 }
 
-kept_more : (d : Draft) (n : ℕ) (line : Line) → Kept d → fits d line ≡ true → IsFormed line → Kept (with_line d n line)
-kept_more d n skipped k h f = k
-kept_more d n header k h f = record { block = k.block; blocks = k.blocks; few_insts = k.few_insts; few_cables = k.few_cables; few_outs = k.few_outs; stock = k.stock; sets = k.sets; cables = k.cables; outs = k.outs }
-kept_more d n (block frames) k h f = record { block = f; blocks = k.blocks; few_insts = k.few_insts; few_cables = k.few_cables; few_outs = k.few_outs; stock = k.stock; sets = k.sets; cables = k.cables; outs = k.outs }
-kept_more d n (blocks count) k h f = record { block = k.block; blocks = f; few_insts = k.few_insts; few_cables = k.few_cables; few_outs = k.few_outs; stock = k.stock; sets = k.sets; cables = k.cables; outs = k.outs }
-kept_more d n (inst name uri) k h f =
-    let new : Inst = record { name = name; uri = uri; line = n } in
-    let few = ltb-true (length d.insts) 32 (both (in_order d (inst name uri) && not (is_there d.insts name)) (nat_lt (length d.insts) 32) h).1 in
-    let grown : length (d.insts ++ new ∷ []) ≡ length d.insts + 1 = length_push d.insts new in
-    record {
-      block = k.block;
-      blocks = k.blocks;
-      few_insts = omega (arith, grown, few);
-      few_cables = k.few_cables;
-      few_outs = k.few_outs;
-      stock = All-push (λ (one : Inst). IsStockUri one.uri) d.insts new k.stock f;
-      sets = All-weaker (λ (one : SetLine). one.inst < length d.insts) (λ (one : SetLine). one.inst < length (d.insts ++ new ∷ [])) (λ one low. omega (arith, grown, low)) d.sets k.sets;
-      cables = All-weaker (LeadsOn (length d.insts)) (LeadsOn (length (d.insts ++ new ∷ []))) (λ one on. (on.0, omega (arith, grown, on.1))) d.cables k.cables;
-      outs = All-weaker (λ (one : OutLine). one.inst < length d.insts) (λ (one : OutLine). one.inst < length (d.insts ++ new ∷ [])) (λ one low. omega (arith, grown, low)) d.outs k.outs;
-    }
-kept_more d n (set name symbol value) k h f =
-    let control = (both (in_order d (set name symbol value)) (is_control d.insts name symbol) h).1 in
-    let new : SetLine = record { inst = place d.insts name; symbol = symbol; value = value; line = n } in
-    let there = ltb-true (place d.insts name) (length d.insts) (both (is_there d.insts name) (bytes_eq symbol (control_of (uri_at d.insts (place d.insts name)))) control).0 in
-    record {
-      block = k.block;
-      blocks = k.blocks;
-      few_insts = k.few_insts;
-      few_cables = k.few_cables;
-      few_outs = k.few_outs;
-      stock = k.stock;
-      sets = All-push (λ (one : SetLine). one.inst < length d.insts) d.sets new k.sets there;
-      cables = k.cables;
-      outs = k.outs;
-    }
-kept_more d n (cable source target) k h f =
-    let line = both (in_order d (cable source target) && leads_on d.insts source target) (nat_lt (length d.cables) 256) h in
-    let new : CableLine = record { source = place d.insts source; output = codes "out"; target = place d.insts target; input = codes "in"; line = n } in
-    let few = ltb-true (length d.cables) 256 line.1 in
-    let leads = both (is_there d.insts source && is_there d.insts target && nat_lt (place d.insts source) (place d.insts target)) (bytes_eq (uri_at d.insts (place d.insts target)) amp_uri) (both (in_order d (cable source target)) (leads_on d.insts source target) line.0).1 in
-    let ends = both (is_there d.insts source && is_there d.insts target) (nat_lt (place d.insts source) (place d.insts target)) leads.0 in
-    let there = ltb-true (place d.insts target) (length d.insts) (both (is_there d.insts source) (is_there d.insts target) ends.0).1 in
-    let greater = ltb-true (place d.insts source) (place d.insts target) ends.1 in
-    record {
-      block = k.block;
-      blocks = k.blocks;
-      few_insts = k.few_insts;
-      few_cables = omega (arith, length_push d.cables new, few);
-      few_outs = k.few_outs;
-      stock = k.stock;
-      sets = k.sets;
-      cables = All-push (LeadsOn (length d.insts)) d.cables new k.cables (greater, there);
-      outs = k.outs;
-    }
-kept_more d n (out name) k h f =
-    let line = both (in_order d (out name) && is_there d.insts name) (nat_lt (length d.outs) 8) h in
-    let new : OutLine = record { inst = place d.insts name; symbol = codes "out"; line = n } in
-    let few = ltb-true (length d.outs) 8 line.1 in
-    let there = ltb-true (place d.insts name) (length d.insts) (both (in_order d (out name)) (is_there d.insts name) line.0).1 in
-    record {
-      block = k.block;
-      blocks = k.blocks;
-      few_insts = k.few_insts;
-      few_cables = k.few_cables;
-      few_outs = omega (arith, length_push d.outs new, few);
-      stock = k.stock;
-      sets = k.sets;
-      cables = k.cables;
-      outs = All-push (λ (one : OutLine). one.inst < length d.insts) d.outs new k.outs there;
-    }
-kept_more d n other k h f = absurd (false≢true h)
-
--- what the first n lines say, one line on
-pub draft_of-more : (ls : List Line) (n : ℕ) → n < length ls → IsTrue (fits (draft_of (take n ls)) (line_at ls n)) → draft_of (take (n + 1) ls) ≡ with_line (draft_of (take n ls)) (n + 1) (line_at ls n)
-draft_of-more ls n l h =
-    let short : length (take n ls) ≡ n = length-take-le n ls (omega arith) in
-    ap draft_of (take_more ls n other l) ∙ draft_of-push (take n ls) (line_at ls n) h ∙ ap (λ m. with_line (draft_of (take n ls)) (m + 1) (line_at ls n)) short
-
-kept : (ls : List Line) → All IsFormed ls → (n : ℕ) → n ≤ length ls → FitUpTo ls n → Kept (draft_of (take n ls))
-kept ls all zero l fit = kept_none
-kept ls all (suc n) l fit =
-    let before = kept ls all n (omega arith) (λ k below. fit k (omega arith)) in
-    let here = fit n (omega arith) in
+keeps : (ls : List Line) (n : ℕ) → n ≤ length ls → AreWell ls n → Keeps (draft_of (take n ls))
+keeps ls zero l well = none_keeps
+keeps ls (suc n) l well =
+    let before = keeps ls n (omega arith) (λ k below. well k (omega arith)) in
+    let here = well n (omega arith) in
     let e : draft_of (take (suc n) ls) ≡ with_line (draft_of (take n ls)) (n + 1) (line_at ls n) = ap (λ m. draft_of (take m ls)) (sym (add-one n)) ∙ draft_of-more ls n (omega arith) here in
-    subst Kept (sym e) (kept_more (draft_of (take n ls)) (n + 1) (line_at ls n) before here (All-get_or IsFormed ls n other (omega arith) all))
+    subst Keeps (sym e) (keeps_more (draft_of (take n ls)) (n + 1) (line_at ls n) here before)
 
-block_within : (o : Option ℕ) → IfSome o (λ frames. (1 ≤ frames) × (frames ≤ 4096)) → (1 ≤ unwrap_or o 256) × (unwrap_or o 256 ≤ 4096)
-block_within None h = (omega arith, omega arith)
-block_within (Some n) h = h
+-- ---- the session
 
-blocks_within : (o : Option ℕ) → IfSome o (λ count. count ≤ 1024) → unwrap_or o 0 ≤ 1024
-blocks_within None h = omega arith
-blocks_within (Some n) h = h
+or_between : (low high default : ℕ) (o : Option ℕ) → IfSome o (IsBetween low high) → low ≤ default → default ≤ high → IsBetween low high (unwrap_or o default)
+or_between low high default None h l m = (l, m)
+or_between low high default (Some n) h l m = h
 
-valid_from : (d : Draft) → Kept d → IsValid (record { block = unwrap_or d.block 256; blocks = unwrap_or d.blocks 0; insts = d.insts; sets = d.sets; cables = d.cables; outs = d.outs })
-valid_from d k = record {
-  some_frames = (block_within d.block k.block).0;
-  block = (block_within d.block k.block).1;
-  blocks = blocks_within d.blocks k.blocks;
-  few_insts = k.few_insts;
-  few_cables = k.few_cables;
-  few_outs = k.few_outs;
-  stock = k.stock;
-  sets = k.sets;
-  cables = k.cables;
-  outs = k.outs;
-}
+mapped_none : {X Y : Type 0} (f : X → Y) (o : Option X) → option_map f o ≡ None → o ≡ None
+mapped_none f None h = refl
+mapped_none f (Some x) h = absurd (cc)
+
+abbrev is_past : Count → Bool
+is_past count = nat_lt count.limit count.number
+
+abbrev no_count : Count
+no_count = record { which = Bundles; number = 0; limit = 0 }
+
+-- a session that passes no limit keeps each
+limited : (s : Session) → passed s ≡ None → (k : ℕ) → k < 7 → is_past (get_or (counts s) k no_count) ≡ false
+limited s h k low = find_none is_past (counts s) no_count (mapped_none (λ (count : Count). (count.which, count.number)) (find is_past (counts s)) h) k low
+
+valid_from : (d : Draft) → Keeps d → passed (session_from d) ≡ None → IsValid (session_from d)
+valid_from d k h =
+    let s = session_from d in
+    let n = d.numbers in
+    record {
+      rate = or_between 1 1000000 48000 n.rate (k.bounds Rate) (omega arith) (omega arith);
+      block = or_between 1 4096 256 n.block (k.bounds Block) (omega arith) (omega arith);
+      blocks = (or_between 0 65536 0 n.blocks (k.bounds Blocks) (omega arith) (omega arith)).1;
+      workers = or_between 1 8 1 n.workers (k.bounds Workers) (omega arith) (omega arith);
+      cells = or_between 1 64 8 n.cells (k.bounds Cells) (omega arith) (omega arith);
+      reserve = k.bounds Record;
+      few_bundles = ltb-false 64 (length d.bundles) (limited s h 0 (omega arith));
+      few_insts = ltb-false 32 (length d.insts) (limited s h 1 (omega arith));
+      few_cables = ltb-false 256 (length d.cables) (limited s h 2 (omega arith));
+      few_outs = ltb-false 8 (length d.outs) (limited s h 3 (omega arith));
+      few_actions = ltb-false 1024 (length d.actions) (limited s h 4 (omega arith));
+      few_saves = ltb-false 128 (length (filter is_save d.actions)) (limited s h 5 (omega arith));
+      few_samples = ltb-false (2 ^ 25) (s.block * s.blocks * length d.outs) (limited s h 6 (omega arith));
+      insts = k.insts;
+      sets = k.sets;
+      cables = k.cables;
+      outs = k.outs;
+      actions = k.actions;
+      in_order = k.in_order;
+    }
 
 -- the session of whole lines is valid
-valid_whole : (script : List ℕ) (session : Session) → IsWhole (lines_of script) → session ≡ session_of (lines_of script) → IsValid session
-valid_whole script session whole value =
-    let ls = lines_of script in
-    let all = subst Kept (ap draft_of (take_all (length ls) ls (omega arith))) (kept ls (formed script) (length ls) (omega arith) whole.fit) in
-    subst IsValid (sym value) (valid_from (draft_of ls) all)
+valid : (ls : List Line) (session : Session) → IsWhole ls → session ≡ session_of ls → passed session ≡ None → IsValid session
+valid ls session whole value limits =
+    let all : Keeps (draft_of ls) = subst Keeps (ap draft_of (take_all (length ls) ls (omega arith))) (keeps ls (length ls) (omega arith) whole.well) in
+    subst IsValid (sym value) (valid_from (draft_of ls) all (ap passed (sym value) ∙ limits))
 
 -- the session that a text says is valid
-pub IsValid-read : (script : List ℕ) (r : Result Session ScriptFault) → ReadsText (lines_of script) r → IfOk r IsValid
-IsValid-read script (Ok session) h = valid_whole script session h.0 h.1
-IsValid-read script (Err fault) h = tt
+pub IsValid-read : (ls : List Line) (r : Result Session ScriptFault) → ReadsText ls r → IfOk r IsValid
+IsValid-read ls (Ok session) h = valid ls session h.0 h.1 h.2
+IsValid-read ls (Err fault) h = tt

@@ -1,46 +1,39 @@
-ghost use Rattle.std.specs.Prelude.{◌≡◌, ◌≤◌, ◌<◌, ◌&&◌, [], true, false, nat_le, length, position, MatchOption};
+ghost use Rattle.std.specs.Prelude.{◌≡◌, ◌<◌, ◌^◌, ℕ, [], false, length, None, OnOk, IfOk, IsTrue, codes};
 ghost use Rattle.std.specs.Str.{bytes_eq};
-ghost use Rattle.session_script.specs.Draft.{order, place, draft_of};
-ghost use Rattle.session_script.specs.Fits.{is_there, uri_at, control_of};
-ghost use Rattle.session_script.specs.Step.{Takes};
-ghost use Rattle.session_script.specs.Line.Line.{header as header_line, block as block_line, blocks as blocks_line, inst as inst_line, set as set_line, cable as cable_line, out as out_line};
-ghost use Rattle.session_script.specs.Statement.{said_or_other};
+ghost use Rattle.std.specs.Option.{option_copied};
+ghost use Rattle.session_script.specs.Draft as spec;
+ghost use Rattle.session_script.specs.Draft.{draft_of};
+ghost use Rattle.session_script.specs.Limits.{AreInBounds};
+ghost use Rattle.session_script.specs.Line.Act.{patch_set};
+ghost use Rattle.session_script.specs.Places.{place};
+ghost use Rattle.session_script.specs.Line.Line.{setting as setting_line, bundle as bundle_line, inst as inst_line, set as set_line, cable as cable_line, out as out_line, at as at_line};
+ghost use Rattle.session_script.specs.Rules.{broken_rule, block_reached};
+ghost use Rattle.session_script.specs.Sorts as sorts;
+ghost use Rattle.session_script.specs.Step.{with_line};
+ghost use Rattle.session_script.specs.Statement.{said, act_said};
+ghost use Rattle.session_script.specs.Judged.{IsActWell, IsWorkerWell};
+ghost use Rattle.session_script.specs.Words.{value_of};
 
-use crate::fault::ScriptFault;
-use crate::session::{CableLine, Inst, OutLine, SetLine};
-use crate::statement::{AMP_URI, CONST_URI, Statement};
-use lv_base::{Fixed, Items, Text};
+use crate::keyword::{Section, Setting};
+use crate::numbers::Numbers;
+use crate::roster::Roster;
+use crate::session::{Action, CableLine, Deed, Inst, OutLine, SetLine};
+use crate::sorts::{decimal_value, integer, small_number, without_slash};
+use crate::statement::{Deeds, Statement};
+use lv_base::{Items, NoMemory, Text};
 use std::alloc::Global;
-
-/// The sections of a script, in their order.
-#[derive(Clone, Copy)]
-pub(crate) enum Section {
-    Start,
-    Settings,
-    Insts,
-    Sets,
-    Cables,
-    Outs,
-}
-
-impl Section {
-    pub(crate) fn order(self) -> u32
-        ensures { result ≡ order self }
-    {
-        self as u32
-    }
-}
 
 /// What the lines read so far say together.
 #[derive(Drop)]
 pub(crate) struct Draft {
     pub section: Section,
-    pub block: Option<u32>,
-    pub blocks: Option<u32>,
-    pub insts: Items<Inst>,
+    pub numbers: Numbers,
+    pub bundles: Items<Text>,
+    pub insts: Roster,
     pub sets: Items<SetLine>,
     pub cables: Items<CableLine>,
     pub outs: Items<OutLine>,
+    pub actions: Items<Action>,
 }
 
 impl Draft {
@@ -50,73 +43,75 @@ impl Draft {
     {
         Draft {
             section: Section::Start,
-            block: None,
-            blocks: None,
-            insts: Items::new(alloc),
+            numbers: Numbers::new(),
+            bundles: Items::new(alloc),
+            insts: Roster::new(alloc),
             sets: Items::new(alloc),
             cables: Items::new(alloc),
             outs: Items::new(alloc),
+            actions: Items::new(alloc),
         }
     }
 
-    /// Adds a line, if it fits the lines before it. What has no form fits nowhere.
+    /// The block of the last action.
+    pub(crate) fn block_reached(&self) -> u32
+        ensures { result ≡ block_reached self.now.actions }
+    {
+        match self.actions.as_slice().last() {
+            Some(action) => action.block,
+            None => 0,
+        }
+    }
+
+    /// Adds a line that breaks no rule.
     pub(crate) fn add(
         &mut self,
         alloc: Global,
         line: u32,
-        statement: Option<Statement<'_>>,
-    ) -> Result<(), ScriptFault>
-        requires { length self.old.insts ≤ 32 }
-        ensures takes { Takes self.old line (said_or_other statement.entry) result self.new }
-        ensures few { length self.new.insts ≤ 32 }
+        statement: Statement<'_>,
+    ) -> Result<(), NoMemory>
+        requires well { broken_rule self.old (said statement) ≡ None }
+        requires few { length self.old.insts < line }
+        requires bounds { AreInBounds self.old.numbers }
+        ensures { OnOk result (self.new ≡ with_line self.old line (said statement.entry)) }
     {
         match statement {
-            Some(Statement::Skipped) => Ok(()),
-            Some(Statement::Header) => self.add_header(line),
-            Some(Statement::Block(frames)) => self.add_block(line, frames),
-            Some(Statement::Blocks(count)) => self.add_blocks(line, count),
-            Some(Statement::Inst(name, uri)) => self.add_inst(alloc, line, name, uri),
-            Some(Statement::Set(name, symbol, value)) => self.add_set(
-                alloc, line, name, symbol, value,
-            ),
-            Some(Statement::Cable(source, target)) => self.add_cable(alloc, line, source, target),
-            Some(Statement::Out(name)) => self.add_out(alloc, line, name),
-            None => Err(ScriptFault::Later(line)),
+            Statement::Skipped | Statement::Miscounted(_) | Statement::Unknown => Ok(()),
+            Statement::Header => {
+                self.section = self.section.later(Section::Settings);
+                Ok(())
+            }
+            Statement::Setting(kind, number) => {
+                self.add_setting(kind, number);
+                Ok(())
+            }
+            Statement::Bundle(path) => self.add_bundle(alloc, path),
+            Statement::Inst(name, uri, worker) => self.add_inst(alloc, line, name, uri, worker),
+            Statement::Set(name, symbol, decimal) => {
+                self.add_set(alloc, line, name, symbol, decimal)
+            }
+            Statement::Cable(source, output, target, input, delayed) => {
+                self.add_cable(alloc, line, (source, output), (target, input), delayed)
+            }
+            Statement::Out(name, symbol) => self.add_out(alloc, line, name, symbol),
+            Statement::At(block, name, act) => self.add_action(alloc, line, block, name, act),
         }
     }
 
-    fn add_header(&mut self, line: u32) -> Result<(), ScriptFault>
-        ensures takes { Takes self.old line header_line result self.new }
-        ensures insts { self.new.insts ≡ self.old.insts }
+    fn add_setting(&mut self, kind: Setting, word: &str)
+        requires { value_of word.now < 2 ^ 32 }
+        ensures { (line : ℕ) → self.new ≡ with_line self.old line (setting_line kind word.now) }
     {
-        if self.section.order() != 0 {
-            return Err(ScriptFault::Later(line));
-        }
-        self.section = Section::Settings;
-        Ok(())
+        self.section = self.section.later(Section::Settings);
+        self.numbers.set(kind, small_number(word));
     }
 
-    fn add_block(&mut self, line: u32, frames: u32) -> Result<(), ScriptFault>
-        ensures takes { Takes self.old line (block_line frames) result self.new }
-        ensures insts { self.new.insts ≡ self.old.insts }
+    fn add_bundle(&mut self, alloc: Global, path: &str) -> Result<(), NoMemory>
+        ensures { (line : ℕ) → OnOk result (self.new ≡ with_line self.old line (bundle_line path.now)) }
     {
-        if !self.is_open(Section::Settings) || self.block.is_some() {
-            return Err(ScriptFault::Later(line));
-        }
-        self.section = Section::Settings;
-        self.block = Some(frames);
-        Ok(())
-    }
-
-    fn add_blocks(&mut self, line: u32, count: u32) -> Result<(), ScriptFault>
-        ensures takes { Takes self.old line (blocks_line count) result self.new }
-        ensures insts { self.new.insts ≡ self.old.insts }
-    {
-        if !self.is_open(Section::Settings) || self.blocks.is_some() {
-            return Err(ScriptFault::Later(line));
-        }
-        self.section = Section::Settings;
-        self.blocks = Some(count);
+        let path = Text::from_str(alloc, without_slash(path))?;
+        self.bundles.push(path)?;
+        self.section = self.section.later(Section::Bundles);
         Ok(())
     }
 
@@ -126,21 +121,25 @@ impl Draft {
         line: u32,
         name: &str,
         uri: &str,
-    ) -> Result<(), ScriptFault>
-        requires { length self.old.insts ≤ 32 }
-        ensures takes { Takes self.old line (inst_line name.now uri.now) result self.new }
-        ensures few { length self.new.insts ≤ 32 }
+        worker: Option<&str>,
+    ) -> Result<(), NoMemory>
+        requires few { length self.old.insts < 2 ^ 32 }
+        requires new { place self.old.insts name.now ≡ length self.old.insts }
+        requires worker { IsWorkerWell (option_copied worker) }
+        ensures { OnOk result (self.new ≡ with_line self.old line (inst_line name.now uri.now (option_copied worker.entry))) }
     {
-        if !self.is_open(Section::Insts)
-            || self.place(name.as_bytes()).is_some()
-            || self.insts.len() >= 32
-        {
-            return Err(ScriptFault::Later(line));
-        }
-        let name = Text::from_str(alloc, name)?;
-        let uri = Text::from_str(alloc, uri)?;
-        self.insts.push(Inst { name, uri, line })?;
-        self.section = Section::Insts;
+        let worker = match worker {
+            Some(word) => Some(small_number(word)),
+            None => None,
+        };
+        let inst = Inst {
+            name: Text::from_str(alloc, name)?,
+            uri: Text::from_str(alloc, uri)?,
+            worker,
+            line,
+        };
+        self.insts.push(alloc, inst)?;
+        self.section = self.section.later(Section::Insts);
         Ok(())
     }
 
@@ -148,29 +147,23 @@ impl Draft {
         &mut self,
         alloc: Global,
         line: u32,
-        name: &[u8],
-        symbol: &[u8],
-        value: Fixed,
-    ) -> Result<(), ScriptFault>
-        requires { length self.old.insts ≤ 32 }
-        ensures takes { Takes self.old line (set_line name.now symbol.now value) result self.new }
-        ensures insts { self.new.insts ≡ self.old.insts }
+        name: &str,
+        symbol: &str,
+        decimal: &str,
+    ) -> Result<(), NoMemory>
+        requires { length self.old.insts < 2 ^ 32 }
+        ensures { OnOk result (self.new ≡ with_line self.old line (set_line name.now symbol.now decimal.now)) }
     {
-        let Some(inst) = self.place(name) else {
-            return Err(ScriptFault::Later(line));
-        };
-        let control = control_of(self.uri(inst));
-        if !self.is_open(Section::Sets) || symbol != control.as_bytes() {
-            return Err(ScriptFault::Later(line));
-        }
-        let symbol = Text::from_str(alloc, control)?;
+        let inst = self.insts.place(name);
+        let symbol = Text::from_str(alloc, symbol)?;
+        let value = decimal_value(decimal);
         self.sets.push(SetLine {
             inst,
             symbol,
             value,
             line,
         })?;
-        self.section = Section::Sets;
+        self.section = self.section.later(Section::Sets);
         Ok(())
     }
 
@@ -178,87 +171,117 @@ impl Draft {
         &mut self,
         alloc: Global,
         line: u32,
-        source: &[u8],
-        target: &[u8],
-    ) -> Result<(), ScriptFault>
-        requires { length self.old.insts ≤ 32 }
-        ensures takes { Takes self.old line (cable_line source.now target.now) result self.new }
-        ensures insts { self.new.insts ≡ self.old.insts }
+        from: (&str, &str),
+        to: (&str, &str),
+        delayed: Option<&str>,
+    ) -> Result<(), NoMemory>
+        requires { length self.old.insts < 2 ^ 32 }
+        ensures { OnOk result (self.new ≡ with_line self.old line
+            (cable_line from.entry.0.now from.entry.1.now to.entry.0.now to.entry.1.now (option_copied delayed.entry))) }
     {
-        let (Some(source), Some(target)) = (self.place(source), self.place(target)) else {
-            return Err(ScriptFault::Later(line));
-        };
-        let leads_on = source < target && self.uri(target) == AMP_URI;
-        if !self.is_open(Section::Cables) || !leads_on || self.cables.len() >= 256 {
-            return Err(ScriptFault::Later(line));
-        }
-        let output = Text::from_str(alloc, "out")?;
-        let input = Text::from_str(alloc, "in")?;
+        let (source, output) = from;
+        let (target, input) = to;
+        let source = self.insts.place(source);
+        let target = self.insts.place(target);
+        let output = Text::from_str(alloc, output)?;
+        let input = Text::from_str(alloc, input)?;
         self.cables.push(CableLine {
             source,
             output,
             target,
             input,
+            delayed: delayed.is_some(),
             line,
         })?;
-        self.section = Section::Cables;
+        self.section = self.section.later(Section::Cables);
         Ok(())
     }
 
-    fn add_out(&mut self, alloc: Global, line: u32, name: &[u8]) -> Result<(), ScriptFault>
-        requires { length self.old.insts ≤ 32 }
-        ensures takes { Takes self.old line (out_line name.now) result self.new }
-        ensures insts { self.new.insts ≡ self.old.insts }
+    fn add_out(
+        &mut self,
+        alloc: Global,
+        line: u32,
+        name: &str,
+        symbol: &str,
+    ) -> Result<(), NoMemory>
+        requires { length self.old.insts < 2 ^ 32 }
+        ensures { OnOk result (self.new ≡ with_line self.old line (out_line name.now symbol.now)) }
     {
-        let Some(inst) = self.place(name) else {
-            return Err(ScriptFault::Later(line));
-        };
-        if !self.is_open(Section::Outs) || self.outs.len() >= 8 {
-            return Err(ScriptFault::Later(line));
-        }
-        let symbol = Text::from_str(alloc, "out")?;
+        let inst = self.insts.place(name);
+        let symbol = Text::from_str(alloc, symbol)?;
         self.outs.push(OutLine { inst, symbol, line })?;
-        self.section = Section::Outs;
+        self.section = self.section.later(Section::Outs);
         Ok(())
     }
 
-    /// The header was read, and nothing that belongs after this section.
-    fn is_open(&self, section: Section) -> bool
-        ensures { result ≡ (nat_le 1 (order self.now.section) && nat_le (order self.now.section) (order section)) }
+    fn add_action(
+        &mut self,
+        alloc: Global,
+        line: u32,
+        block: &str,
+        name: &str,
+        act: Deeds<'_>,
+    ) -> Result<(), NoMemory>
+        requires few { length self.old.insts < 2 ^ 32 }
+        requires block { value_of block.now < 2 ^ 32 }
+        requires act { IsActWell (act_said act) }
+        ensures { OnOk result (self.new ≡ with_line self.old line (at_line block.now name.now (act_said act.entry))) }
     {
-        self.section.order() >= 1 && self.section.order() <= section.order()
-    }
-
-    /// The number of the instance with this name.
-    fn place(&self, name: &[u8]) -> Option<u32>
-        requires { length self.now.insts ≤ 32 }
-        ensures { MatchOption result (is_there self.now.insts name.now ≡ false) (λ at. (is_there self.now.insts name.now ≡ true) × (at ≡ place self.now.insts name.now)) }
-    {
-        let at = self.position(name)?;
-        Some(at as u32)
-    }
-
-    fn position(&self, name: &[u8]) -> Option<usize>
-        ensures { result ≡ position (λ one. bytes_eq one.name name.now) self.now.insts }
-    {
-        self.insts
-            .as_slice()
-            .iter()
-            .position(|inst| inst.name.as_bytes() == name)
-    }
-
-    /// The URI of an instance.
-    fn uri(&self, inst: u32) -> &str
-        requires { inst < length self.now.insts }
-        ensures { result.now ≡ uri_at self.now.insts inst }
-    {
-        self.insts.as_slice()[inst as usize].uri.as_str()
+        let block = small_number(block);
+        let inst = self.insts.place(name);
+        let deed = deed_of(alloc, act)?;
+        self.actions.push(Action {
+            block,
+            inst,
+            deed,
+            line,
+        })?;
+        self.section = self.section.later(Section::Actions);
+        Ok(())
     }
 }
 
-/// The control input of a stock plug-in.
-fn control_of(uri: &str) -> &'static str
-    ensures { result.now ≡ control_of uri.now }
+/// What a line `at` does, with texts of its own.
+fn deed_of(alloc: Global, act: Deeds<'_>) -> Result<Deed, NoMemory>
+    requires { IsActWell (act_said act) }
+    ensures { IfOk result (λ deed. deed ≡ spec.deed_of (act_said act.entry)) }
 {
-    if uri == CONST_URI { "value" } else { "gain" }
+    match act {
+        Deeds::SetValue(symbol, decimal) => {
+            let symbol = Text::from_str(alloc, symbol)?;
+            let value = decimal_value(decimal);
+            Ok(Deed::Set { symbol, value })
+        }
+        Deeds::PatchSet(property, form, value) => {
+            let property = Text::from_str(alloc, property)?;
+            Ok(patch_of(property, form, value))
+        }
+        Deeds::PatchGet(None) => Ok(Deed::PatchGet { property: None }),
+        Deeds::PatchGet(Some(property)) => {
+            let property = Text::from_str(alloc, property)?;
+            Ok(Deed::PatchGet {
+                property: Some(property),
+            })
+        }
+        Deeds::Save => Ok(Deed::Save),
+        Deeds::Restore(path, place) => {
+            let path = Text::from_str(alloc, path)?;
+            let place = small_number(place);
+            Ok(Deed::Restore { path, place })
+        }
+    }
+}
+
+/// A set of a property by a value of its form.
+fn patch_of(property: Text, form: &str, value: &str) -> Deed
+    requires { bytes_eq form.now (codes "fixed") ≡ false → IsTrue (sorts.fits_i32 value.now) }
+    ensures { result ≡ spec.deed_of (patch_set property form.now value.now) }
+{
+    if form == "fixed" {
+        let value = decimal_value(value);
+        Deed::PatchFixed { property, value }
+    } else {
+        let value = integer(value);
+        Deed::PatchInt { property, value }
+    }
 }

@@ -3,14 +3,21 @@
 
 mod draft;
 mod fault;
+pub mod first_path;
+mod keyword;
+mod limits;
+mod numbers;
 mod reader;
+mod roster;
+mod rules;
 mod session;
+mod sorts;
 mod statement;
 mod words;
 
-pub use fault::ScriptFault;
+pub use fault::{Limit, ScriptFault, ScriptRule};
 pub use reader::{one_answer, read};
-pub use session::{CableLine, Inst, OutLine, Session, SetLine};
+pub use session::{Action, CableLine, Deed, Inst, OutLine, Session, SetLine};
 
 #[cfg(test)]
 mod tests;

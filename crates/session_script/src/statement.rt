@@ -1,14 +1,21 @@
 ghost use Rattle.std.specs.Prelude.{◌≡◌};
 ghost use Rattle.session_script.specs.Words.{words};
-ghost use Rattle.session_script.specs.Line.{line_of, line_by, header_of, block_of, blocks_of, inst_of, set_of, cable_of, out_of};
-ghost use Rattle.session_script.specs.Statement.{said_or_other, IsOnlyWord, StockUri};
+ghost use Rattle.session_script.specs.Line as spec;
+ghost use Rattle.session_script.specs.Line.Line.{miscounted};
+ghost use Rattle.session_script.specs.Statement.{said, said_or, IsOnlyWord, IsRest};
 
-use crate::words::{cut_word, name_in, number_in};
-use lv_base::{Fixed, parse_decimal};
+use crate::keyword::{Keyword, Setting};
+use crate::words::cut_word;
 
-pub(crate) const CONST_URI: &str = "urn:lv2fx:const";
-
-pub(crate) const AMP_URI: &str = "urn:lv2fx:amp";
+/// What a line `at` does to an instance. Its words are lent.
+#[derive(Clone, Copy)]
+pub(crate) enum Deeds<'a> {
+    SetValue(&'a str, &'a str),
+    PatchSet(&'a str, &'a str, &'a str),
+    PatchGet(Option<&'a str>),
+    Save,
+    Restore(&'a str, &'a str),
+}
 
 /// What one line says by itself. Its words are lent.
 #[derive(Clone, Copy)]
@@ -16,118 +23,225 @@ pub(crate) enum Statement<'a> {
     /// No word, or a comment.
     Skipped,
     Header,
-    Block(u32),
-    Blocks(u32),
-    Inst(&'a str, &'static str),
-    Set(&'a [u8], &'a [u8], Fixed),
-    Cable(&'a [u8], &'a [u8]),
-    Out(&'a [u8]),
+    Setting(Setting, &'a str),
+    Bundle(&'a str),
+    Inst(&'a str, &'a str, Option<&'a str>),
+    Set(&'a str, &'a str, &'a str),
+    Cable(&'a str, &'a str, &'a str, &'a str, Option<&'a str>),
+    Out(&'a str, &'a str),
+    At(&'a str, &'a str, Deeds<'a>),
+    /// A known first word, and a wrong number of words.
+    Miscounted(Keyword),
+    Unknown,
 }
 
-/// What a line says, if it has a form.
-pub(crate) fn statement_of(line: &[u8]) -> Option<Statement<'_>>
-    ensures { said_or_other result ≡ line_of (words line.now) }
+/// What a line says.
+pub(crate) fn statement_of(line: &str) -> Statement<'_>
+    ensures { said result ≡ spec.line_of (words line.now) }
 {
     let Some((keyword, rest)) = cut_word(line) else {
-        return Some(Statement::Skipped);
+        return Statement::Skipped;
     };
-    if keyword.starts_with("#".as_bytes()) {
-        return Some(Statement::Skipped);
+    if keyword.as_bytes().starts_with("#".as_bytes()) {
+        return Statement::Skipped;
     }
     statement_with(keyword, rest)
 }
 
-fn statement_with<'a>(keyword: &[u8], rest: &'a [u8]) -> Option<Statement<'a>>
-    ensures { said_or_other result ≡ line_by keyword.now (words rest.now) }
+fn statement_with<'a>(keyword: &str, rest: &'a str) -> Statement<'a>
+    ensures { said result ≡ spec.line_by keyword.now (words rest.now) }
 {
-    if keyword == "lv2fx".as_bytes() {
+    if keyword == "lv2fx" {
         header(rest)
-    } else if keyword == "block".as_bytes() {
-        Some(Statement::Block(number_in(1, 4096, only_word(rest)?)?))
-    } else if keyword == "blocks".as_bytes() {
-        Some(Statement::Blocks(number_in(0, 1024, only_word(rest)?)?))
-    } else if keyword == "inst".as_bytes() {
-        inst(rest)
-    } else if keyword == "set".as_bytes() {
-        set(rest)
-    } else if keyword == "cable".as_bytes() {
-        cable(rest)
-    } else if keyword == "out".as_bytes() {
-        out(rest)
+    } else if keyword == "rate" {
+        setting(Setting::Rate, rest)
+    } else if keyword == "block" {
+        setting(Setting::Block, rest)
+    } else if keyword == "blocks" {
+        setting(Setting::Blocks, rest)
+    } else if keyword == "workers" {
+        setting(Setting::Workers, rest)
+    } else if keyword == "cells" {
+        setting(Setting::Cells, rest)
+    } else if keyword == "record" {
+        setting(Setting::Record, rest)
+    } else if keyword == "bundle" {
+        bundle(rest)
+    } else if keyword == "inst" {
+        inst(rest).unwrap_or(Statement::Miscounted(Keyword::Inst))
+    } else if keyword == "set" {
+        set(rest).unwrap_or(Statement::Miscounted(Keyword::Set))
+    } else if keyword == "cable" {
+        cable(rest).unwrap_or(Statement::Miscounted(Keyword::Cable))
+    } else if keyword == "out" {
+        out(rest).unwrap_or(Statement::Miscounted(Keyword::Out))
+    } else if keyword == "at" {
+        at(rest).unwrap_or(Statement::Miscounted(Keyword::At))
     } else {
-        None
+        Statement::Unknown
     }
 }
 
 /// `1`
-fn header(rest: &[u8]) -> Option<Statement<'_>>
-    ensures { said_or_other result ≡ header_of (words rest.now) }
+fn header(rest: &str) -> Statement<'_>
+    ensures { said result ≡ spec.header_of (words rest.now) }
 {
-    let version = only_word(rest)?;
-    (version == "1".as_bytes()).then_some(Statement::Header)
-}
-
-/// `NAME URI`
-fn inst(rest: &[u8]) -> Option<Statement<'_>>
-    ensures { said_or_other result ≡ inst_of (words rest.now) }
-{
-    let (name, rest) = cut_word(rest)?;
-    let uri = stock_uri(only_word(rest)?)?;
-    Some(Statement::Inst(name_in(name)?, uri))
-}
-
-/// The stock URI that these bytes are.
-fn stock_uri(word: &[u8]) -> Option<&'static str>
-    ensures { StockUri word.now result }
-{
-    if word == CONST_URI.as_bytes() {
-        Some(CONST_URI)
-    } else if word == AMP_URI.as_bytes() {
-        Some(AMP_URI)
-    } else {
-        None
+    match only_word(rest) {
+        Some(version) if version == "1" => Statement::Header,
+        _ => Statement::Unknown,
     }
 }
 
+/// `N`
+fn setting(kind: Setting, rest: &str) -> Statement<'_>
+    ensures { said result ≡ spec.setting_of kind (words rest.now) }
+{
+    match only_word(rest) {
+        Some(number) => Statement::Setting(kind, number),
+        None => Statement::Miscounted(Keyword::Number(kind)),
+    }
+}
+
+/// `PATH`
+fn bundle(rest: &str) -> Statement<'_>
+    ensures { said result ≡ spec.bundle_of (words rest.now) }
+{
+    match only_word(rest) {
+        Some(path) => Statement::Bundle(path),
+        None => Statement::Miscounted(Keyword::Bundle),
+    }
+}
+
+/// `NAME URI [WORKER]`
+fn inst(rest: &str) -> Option<Statement<'_>>
+    ensures { said_or (miscounted Keyword.Inst) result ≡ spec.inst_of (words rest.now) }
+{
+    let (name, rest) = cut_word(rest)?;
+    let (uri, rest) = cut_word(rest)?;
+    Some(Statement::Inst(name, uri, last_word(rest)?))
+}
+
 /// `NAME SYMBOL DECIMAL`
-fn set(rest: &[u8]) -> Option<Statement<'_>>
-    ensures { said_or_other result ≡ set_of (words rest.now) }
+fn set(rest: &str) -> Option<Statement<'_>>
+    ensures { said_or (miscounted Keyword.Set) result ≡ spec.set_of (words rest.now) }
 {
     let (name, rest) = cut_word(rest)?;
     let (symbol, rest) = cut_word(rest)?;
-    let value = parse_decimal(only_word(rest)?).ok()?;
-    Some(Statement::Set(name, symbol, value))
+    Some(Statement::Set(name, symbol, only_word(rest)?))
 }
 
-/// `NAME out NAME in`
-fn cable(rest: &[u8]) -> Option<Statement<'_>>
-    ensures { said_or_other result ≡ cable_of (words rest.now) }
+/// `NAME SYMBOL NAME SYMBOL [delayed]`
+fn cable(rest: &str) -> Option<Statement<'_>>
+    ensures { said_or (miscounted Keyword.Cable) result ≡ spec.cable_of (words rest.now) }
 {
     let (source, rest) = cut_word(rest)?;
     let (output, rest) = cut_word(rest)?;
     let (target, rest) = cut_word(rest)?;
-    let input = only_word(rest)?;
-    (output == "out".as_bytes() && input == "in".as_bytes()).then_some(Statement::Cable(
-        source, target,
-    ))
+    let (input, rest) = cut_word(rest)?;
+    Some(Statement::Cable(source, output, target, input, last_word(rest)?))
 }
 
-/// `NAME out`
-fn out(rest: &[u8]) -> Option<Statement<'_>>
-    ensures { said_or_other result ≡ out_of (words rest.now) }
+/// `NAME SYMBOL`
+fn out(rest: &str) -> Option<Statement<'_>>
+    ensures { said_or (miscounted Keyword.Out) result ≡ spec.out_of (words rest.now) }
 {
     let (name, rest) = cut_word(rest)?;
-    let output = only_word(rest)?;
-    (output == "out".as_bytes()).then_some(Statement::Out(name))
+    Some(Statement::Out(name, only_word(rest)?))
+}
+
+/// `BLOCK ACTION ..`
+fn at(rest: &str) -> Option<Statement<'_>>
+    ensures { said_or (miscounted Keyword.At) result ≡ spec.at_of (words rest.now) }
+{
+    let (block, rest) = cut_word(rest)?;
+    let (action, rest) = cut_word(rest)?;
+    act(block, action, rest)
+}
+
+fn act<'a>(block: &'a str, action: &str, rest: &'a str) -> Option<Statement<'a>>
+    ensures { said_or (miscounted Keyword.At) result ≡ spec.act_by block.now action.now (words rest.now) }
+{
+    if action == "set" {
+        at_set(block, rest)
+    } else if action == "patch-set" {
+        at_patch_set(block, rest)
+    } else if action == "patch-get" {
+        at_patch_get(block, rest)
+    } else if action == "save" {
+        at_save(block, rest)
+    } else if action == "restore" {
+        at_restore(block, rest)
+    } else {
+        Some(Statement::Unknown)
+    }
+}
+
+/// `NAME SYMBOL DECIMAL`
+fn at_set<'a>(block: &'a str, rest: &'a str) -> Option<Statement<'a>>
+    ensures { said_or (miscounted Keyword.At) result ≡ spec.at_set_of block.now (words rest.now) }
+{
+    let (name, rest) = cut_word(rest)?;
+    let (symbol, rest) = cut_word(rest)?;
+    let act = Deeds::SetValue(symbol, only_word(rest)?);
+    Some(Statement::At(block, name, act))
+}
+
+/// `NAME IRI fixed DECIMAL`, or `int NUMBER`
+fn at_patch_set<'a>(block: &'a str, rest: &'a str) -> Option<Statement<'a>>
+    ensures { said_or (miscounted Keyword.At) result ≡ spec.at_patch_set_of block.now (words rest.now) }
+{
+    let (name, rest) = cut_word(rest)?;
+    let (property, rest) = cut_word(rest)?;
+    let (form, rest) = cut_word(rest)?;
+    let act = Deeds::PatchSet(property, form, only_word(rest)?);
+    Some(Statement::At(block, name, act))
+}
+
+/// `NAME [IRI]`
+fn at_patch_get<'a>(block: &'a str, rest: &'a str) -> Option<Statement<'a>>
+    ensures { said_or (miscounted Keyword.At) result ≡ spec.at_patch_get_of block.now (words rest.now) }
+{
+    let (name, rest) = cut_word(rest)?;
+    Some(Statement::At(block, name, Deeds::PatchGet(last_word(rest)?)))
+}
+
+/// `NAME`
+fn at_save<'a>(block: &'a str, rest: &'a str) -> Option<Statement<'a>>
+    ensures { said_or (miscounted Keyword.At) result ≡ spec.at_save_of block.now (words rest.now) }
+{
+    Some(Statement::At(block, only_word(rest)?, Deeds::Save))
+}
+
+/// `NAME PATH K`
+fn at_restore<'a>(block: &'a str, rest: &'a str) -> Option<Statement<'a>>
+    ensures { said_or (miscounted Keyword.At) result ≡ spec.at_restore_of block.now (words rest.now) }
+{
+    let (name, rest) = cut_word(rest)?;
+    let (path, rest) = cut_word(rest)?;
+    let act = Deeds::Restore(path, only_word(rest)?);
+    Some(Statement::At(block, name, act))
 }
 
 /// The one word of a line.
-fn only_word(rest: &[u8]) -> Option<&[u8]>
+fn only_word(rest: &str) -> Option<&str>
     ensures { IsOnlyWord (words rest.now) result }
 {
     let (word, rest) = cut_word(rest)?;
     match cut_word(rest) {
         None => Some(word),
         Some(_) => None,
+    }
+}
+
+/// The one word that a line may have.
+fn last_word(rest: &str) -> Option<Option<&str>>
+    ensures { IsRest (words rest.now) result }
+{
+    match cut_word(rest) {
+        None => Some(None),
+        Some((word, rest)) => match cut_word(rest) {
+            None => Some(Some(word)),
+            Some(_) => None,
+        },
     }
 }

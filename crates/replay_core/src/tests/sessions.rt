@@ -3,8 +3,8 @@ ghost use Rattle.session_script.specs.declared.session.Inst.{Inst};
 ghost use Rattle.session_script.specs.declared.session.SetLine.{SetLine};
 ghost use Rattle.session_script.specs.declared.session.CableLine.{CableLine};
 ghost use Rattle.session_script.specs.declared.session.OutLine.{OutLine};
-ghost use Rattle.session_script.specs.Stock.{IsStockUri};
-ghost use Rattle.session_script.specs.Valid.{IsValid, LeadsOn};
+ghost use Rattle.session_script.specs.FirstPath.Stock.{IsStockUri};
+ghost use Rattle.session_script.specs.FirstPath.Valid.{IsValid, LeadsOn};
 
 use lv_base::{Fixed, Items, NoMemory, Text};
 use session_script::{CableLine, Inst, OutLine, Session, SetLine};
@@ -23,12 +23,18 @@ pub struct Plan<'a> {
 
 pub fn session(alloc: Global, plan: &Plan<'_>) -> Result<Session, NoMemory> {
     Ok(Session {
+        rate: 48000,
         block: plan.block,
         blocks: plan.blocks,
+        workers: 1,
+        cells: 8,
+        reserve: None,
+        bundles: Items::new(alloc),
         insts: insts(alloc, plan.insts)?,
         sets: sets(alloc, plan.sets)?,
         cables: cables(alloc, plan.cables)?,
         outs: outs(alloc, plan.outs)?,
+        actions: Items::new(alloc),
     })
 }
 
@@ -38,6 +44,7 @@ fn insts(alloc: Global, plan: &[(&str, &str)]) -> Result<Items<Inst>, NoMemory> 
         insts.push(Inst {
             name: Text::from_str(alloc, name)?,
             uri: Text::from_str(alloc, uri)?,
+            worker: None,
             line: 1,
         })?;
     }
@@ -65,6 +72,7 @@ fn cables(alloc: Global, plan: &[(u32, u32)]) -> Result<Items<CableLine>, NoMemo
             output: Text::from_str(alloc, "out")?,
             target: *target,
             input: Text::from_str(alloc, "in")?,
+            delayed: false,
             line: 1,
         })?;
     }

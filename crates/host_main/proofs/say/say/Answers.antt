@@ -14,7 +14,15 @@ returns-in-WriteFailed-clause-said g c =
 
 pub returns-in-Script-clause-said : goal.returns-in-Script-clause-said
 returns-in-Script-clause-said g c =
-    rw (c.in-Script.is, ← c.format.ensures.text) c.put_line-in-Script.ensures.said
+    rw (c.in-Script.is, ← c.format.ensures.text, ← c.rule_end.ensures) c.put_line-in-Script.ensures.said
+
+pub returns-in-Later-clause-said : goal.returns-in-Later-clause-said
+returns-in-Later-clause-said g c =
+    rw (c.in-Later.is, ← c.format-in-Later.ensures.text) c.put_line-in-Later.ensures.said
+
+pub returns-in-Past-clause-said : goal.returns-in-Past-clause-said
+returns-in-Past-clause-said g c =
+    rw (c.in-Past.is, ← c.format-in-Past.ensures.text, ← c.limit_front.ensures) c.put_line-in-Past.ensures.said
 
 pub returns-in-TooLong-clause-said : goal.returns-in-TooLong-clause-said
 returns-in-TooLong-clause-said g c = rw c.in-TooLong.is c.put_line-in-TooLong.ensures.said
