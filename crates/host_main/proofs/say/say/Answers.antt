@@ -22,7 +22,8 @@ returns-in-Later-clause-said g c =
 
 pub returns-in-Past-clause-said : goal.returns-in-Past-clause-said
 returns-in-Past-clause-said g c =
-    rw (c.in-Past.is, ← c.format-in-Past.ensures.text, ← c.limit_front.ensures) c.put_line-in-Past.ensures.said
+    let said = rw (c.format-in-Past.ensures.text, c.limit_front.ensures) at c.put_line-in-Past.ensures.said in
+    rw c.in-Past.is said
 
 pub returns-in-TooLong-clause-said : goal.returns-in-TooLong-clause-said
 returns-in-TooLong-clause-said g c = rw c.in-TooLong.is c.put_line-in-TooLong.ensures.said
