@@ -1,0 +1,11 @@
+use Rattle.std.proofs.Common.{◌≡◌, ◌∙◌, sym, false, append_assoc, codes}
+use Rattle.std.specs.Str.{bytes_eq}
+use Rattle.triple_list.specs.Listing.{iri_text, xsd_string}
+use Rattle.triple_list.proofs.Datatypes.{is_written}
+use Rattle.triple_list.proofs.term.push_datatype.Goals as goal
+
+pub returns : goal.returns
+returns c =
+    let other : bytes_eq c.as_str.result.now xsd_string ≡ false = sym c.eq.ensures ∙ c.if-eq.false in
+    let here : bytes_eq c.args.datatype.now xsd_string ≡ false = rw (← c.as_str.ensures) other in
+    rw (is_written _ here, ← append_assoc c.args.into.now (codes "^^") (iri_text c.args.datatype.now), ← c.in_ok-push.ensures) c.push_iri.ensures

@@ -1,0 +1,11 @@
+//! Triples as lines of text.
+#![tactic(auto)]
+
+mod escape;
+mod listing;
+mod term;
+
+pub use listing::push_listing;
+
+#[cfg(test)]
+mod tests;

@@ -1,0 +1,76 @@
+ghost use Rattle.std.specs.Prelude.{◌≡◌, ◌++◌, OnOk, decimal};
+ghost use Rattle.triple_list.specs.Listing.{iri_text, blank_text, datatype_text, kind_text, literal_text, term_text};
+
+use crate::escape::push_escaped;
+use itoa::Buffer;
+use lv_base::{Bytes, NoMemory, Text};
+use triple_store::Term;
+
+/// The datatype of a literal that is written alone (RDF 1.1, section 3.3).
+const STRING: &str = "http://www.w3.org/2001/XMLSchema#string";
+
+pub(crate) fn push_term(into: &mut Bytes, term: &Term) -> Result<(), NoMemory>
+    ensures { OnOk result (into.new ≡ into.old ++ term_text term.now) }
+{
+    match term {
+        Term::Iri(iri) => push_iri(into, iri),
+        Term::Blank(number) => push_blank(into, *number),
+        Term::Literal {
+            text,
+            datatype,
+            lang,
+        } => push_literal(into, text, datatype, lang),
+    }
+}
+
+fn push_iri(into: &mut Bytes, iri: &Text) -> Result<(), NoMemory>
+    ensures { OnOk result (into.new ≡ into.old ++ iri_text iri.now) }
+{
+    push(into, "<")?;
+    push(into, iri.as_str())?;
+    push(into, ">")
+}
+
+fn push_blank(into: &mut Bytes, number: u32) -> Result<(), NoMemory>
+    ensures { OnOk result (into.new ≡ into.old ++ blank_text number) }
+{
+    let mut buffer = Buffer::new();
+    push(into, "_:")?;
+    push(into, buffer.format(number))
+}
+
+fn push_literal(into: &mut Bytes, text: &Text, datatype: &Text, lang: &Text) -> Result<(), NoMemory>
+    ensures { OnOk result (into.new ≡ into.old ++ literal_text text.now datatype.now lang.now) }
+{
+    push(into, "\"")?;
+    push_escaped(into, text.as_bytes())?;
+    push(into, "\"")?;
+    push_kind(into, datatype, lang)
+}
+
+// What stands behind a literal's text.
+fn push_kind(into: &mut Bytes, datatype: &Text, lang: &Text) -> Result<(), NoMemory>
+    ensures { OnOk result (into.new ≡ into.old ++ kind_text datatype.now lang.now) }
+{
+    if lang.as_bytes().is_empty() {
+        return push_datatype(into, datatype);
+    }
+    push(into, "@")?;
+    push(into, lang.as_str())
+}
+
+fn push_datatype(into: &mut Bytes, datatype: &Text) -> Result<(), NoMemory>
+    ensures { OnOk result (into.new ≡ into.old ++ datatype_text datatype.now) }
+{
+    if datatype.as_str() == STRING {
+        return Ok(());
+    }
+    push(into, "^^")?;
+    push_iri(into, datatype)
+}
+
+pub(crate) fn push(into: &mut Bytes, words: &str) -> Result<(), NoMemory>
+    ensures { OnOk result (into.new ≡ into.old ++ words.now) }
+{
+    into.push_all(words.as_bytes())
+}
