@@ -1,0 +1,70 @@
+-- A fault of a part is one of the whole.
+use Rattle.std.proofs.Common.{◌≡◌, ℕ, refl, ap, sym, subst, ◌∙◌, Result, Ok, Err, IsErrAnd, Option, None, Some, List}
+use Rattle.turtle_document.specs.Meaning.{Fault, State, ◌>>=◌, name_of}
+use Rattle.turtle_document.specs.Meaning.Fault.{no_prefix, bad_iri, too_deep, full_store}
+use Rattle.turtle_document.specs.Machine.{Config, Move, on}
+use Rattle.turtle_document.specs.Machine.Move.{to, stuck, fails}
+use Rattle.turtle_grammar.specs.Tree.{Name}
+use Rattle.turtle_read.specs.Faults.{Refuses, Stops, Follows, Leads}
+use Rattle.turtle_read.specs.Names.{iri_of}
+use Rattle.turtle_read.specs.declared.fault.TurtleFault.{TurtleFault}
+use Rattle.turtle_read.specs.declared.fault.TurtleFault.TheVariants.{Lex, Syntax, NoPrefix, BadIri, Depth, StoreFull, NoMemory}
+
+pub stops_from : (at : ℕ) (fault : TurtleFault) (m : Move) (R : Fault → Type 0) → Refuses fault R → ((f : Fault) → R f → m ≡ fails f) → Stops at fault m
+stops_from at (Lex fault) m R h g = absurd h
+stops_from at (Syntax place) m R h g = absurd h
+stops_from at (NoPrefix place) m R h g = g (no_prefix place) h
+stops_from at (BadIri place) m R h g = g (bad_iri place) h
+stops_from at (Depth place) m R h g = g (too_deep place) h
+stops_from at (StoreFull place) m R h g = g (full_store place) h
+stops_from at NoMemory m R h g = tt
+
+pub refuses_from : (fault : TurtleFault) (R S : Fault → Type 0) → Refuses fault R → ((f : Fault) → R f → S f) → Refuses fault S
+refuses_from (Lex fault) R S h g = absurd h
+refuses_from (Syntax place) R S h g = absurd h
+refuses_from (NoPrefix place) R S h g = g (no_prefix place) h
+refuses_from (BadIri place) R S h g = g (bad_iri place) h
+refuses_from (Depth place) R S h g = g (too_deep place) h
+refuses_from (StoreFull place) R S h g = g (full_store place) h
+refuses_from NoMemory R S h g = tt
+
+-- an answer to a move is one to an equal move
+pub follows_as : {T : Type 0} (at : ℕ) (r : Result T TurtleFault) (c : Config) (st : State) (m n : Move) → n ≡ m → Follows at r c st m → Follows at r c st n
+follows_as {T} at r c st m n e h = let P : Move → Type 0 = λ v. Follows at r c st v in subst P (sym e) h
+
+-- a fault of what a move begins with
+pub stops_on : {A : Type 0} (at : ℕ) (fault : TurtleFault) (r : Result A Fault) (k : A → Move) → Refuses fault (λ f. r ≡ Err f) → Stops at fault (on r k)
+stops_on at fault r k h = stops_from at fault (on r k) (λ f. r ≡ Err f) h (λ f e. ap (λ v. on v k) e)
+
+-- What a token names.
+pub at_name : (st : State) (F : Option Name → Move) (k : List ℕ → Move) → ((name : Name) → F (Some name) ≡ on (name_of name st) k)
+    → (n : Option Name) (iri : List ℕ) → iri_of n st ≡ Ok (Some iri) → F n ≡ k iri
+at_name st F k h None iri e = cc
+at_name st F k h (Some name) iri e = h name ∙ by (name_of name st) e
+  where
+    by : (r : Result (List ℕ) Fault) → (r >>= (λ (x : List ℕ). Ok (Some x))) ≡ Ok (Some iri) → on r k ≡ k iri
+    by (Ok x) e = let same : x ≡ iri = cc in ap k same
+    by (Err f) e = cc
+
+pub at_none : (st : State) (F : Option Name → Move) (n : Option Name) → iri_of n st ≡ Ok None → F n ≡ F None
+at_none st F None e = refl
+at_none st F (Some name) e = by (name_of name st) e
+  where
+    by : (r : Result (List ℕ) Fault) → (r >>= (λ (x : List ℕ). Ok (Some x))) ≡ Ok None → F (Some name) ≡ F None
+    by (Ok x) e = cc
+    by (Err f) e = cc
+
+pub at_fault : (st : State) (F : Option Name → Move) (k : List ℕ → Move) → ((name : Name) → F (Some name) ≡ on (name_of name st) k)
+    → (n : Option Name) (f : Fault) → iri_of n st ≡ Err f → F n ≡ fails f
+at_fault st F k h None f e = cc
+at_fault st F k h (Some name) f e = h name ∙ by (name_of name st) e
+  where
+    by : (r : Result (List ℕ) Fault) → (r >>= (λ (x : List ℕ). Ok (Some x))) ≡ Err f → on r k ≡ fails f
+    by (Ok x) e = cc
+    by (Err g) e = let same : g ≡ f = cc in ap fails same
+
+-- a fault that `?` hands on
+pub residual : {T : Type 0} (at : ℕ) (r : Result T TurtleFault) (fault : TurtleFault) (c : Config) (st : State) (m : Move)
+    → IsErrAnd r (λ made. made ≡ fault) → Stops at fault m → Follows at r c st m
+residual at (Ok x) fault c st m h s = absurd h
+residual at (Err made) fault c st m h s = let P : TurtleFault → Type 0 = λ f. Stops at f m in subst P (sym h) s

@@ -1,0 +1,24 @@
+use Rattle.std.proofs.Common.{refl, ap, sym, ◌∙◌, Some, None, Ok, Err}
+use Rattle.triple_store.specs.declared.term.Term.TheVariants as terms
+use Rattle.triple_store.proofs.SameTerm.{copy_of_term}
+use Rattle.turtle_grammar.specs.declared.token.TokenKind.TheVariants as kinds
+use Rattle.turtle_document.specs.Meaning.{may_open}
+use Rattle.turtle_document.specs.Machine.{Move, config, on, listed}
+use Rattle.turtle_document.specs.Machine.Move.{to, stuck, fails}
+use Rattle.turtle_document.specs.declared.expected.Chain.TheVariants as chains
+use Rattle.turtle_document.specs.declared.expected.Expected.TheVariants as expect
+use Rattle.turtle_document.specs.declared.expected.Hole.TheVariants as holes
+use Rattle.turtle_read.specs.Faults.{leaf_of}
+use Rattle.turtle_read.specs.Moves as moves
+use Rattle.turtle_read.specs.Readers.{config_of, inside}
+use Rattle.turtle_read.proofs.Moves as laws
+use Rattle.turtle_read.proofs.Stops.{stops_from, follows_as, stops_on, residual}
+use Rattle.turtle_read.proofs.reader.Reader.begin_short.Goals as goal
+
+pub returns-in_ok-term-in-Some-clause-moves : goal.returns-in_ok-term-in-Some-clause-moves
+returns-in_ok-term-in-Some-clause-moves c =
+    follows_as c.args.token.at c.fill.result _ _ _ _ (laws.short c.args.token.kind c.args.hole (leaf_of c.args.token) c.args.self.now.outer (inside c.args.self.now) c.in_ok-datatype-in-Some.datatype c.in_ok-text-in-Some.text (ap Some c.in_ok-datatype-in-Some.ensures.cases ∙ c.in-Some.ensures) c.in_ok-text-in-Some.ensures ∙ ap (λ x. moves.filled c.args.hole c.args.token.at x c.args.self.now.outer (inside c.args.self.now)) (sym c.in_ok-term-in-Some.ensures)) (c.fill.ensures.moves c.args.token.at)
+
+pub returns-in-None-clause-moves : goal.returns-in-None-clause-moves
+returns-in-None-clause-moves c =
+    follows_as c.args.token.at c.begin_resource.result _ _ _ _ (laws.not_short c.args.token.kind c.args.hole (leaf_of c.args.token) c.args.self.now.outer (inside c.args.self.now) c.in-None.ensures) c.begin_resource.ensures.moves

@@ -1,0 +1,195 @@
+ghost use Rattle.std.specs.Prelude.{◌≡◌, ◌≤◌, ◌^◌, ◌↔◌, IsTrue, true, is_some, length};
+ghost use Rattle.iri_resolve.specs.Components.{scheme_of};
+ghost use Rattle.triple_store.specs.Triples.{blanks_of_triple, blanks_of_term};
+
+use crate::TurtleFault;
+use crate::lexeme::Lexeme;
+use crate::name::Name;
+use indexmap::IndexMap;
+use iri_resolve::{IriFault, resolve};
+use lv_base::{NoMemory, Text};
+use seeded_hash::SeededHash;
+use std::alloc::Global;
+use triple_store::{MOST_ROWS, Store, StoreFault, Term, Triple};
+use turtle_grammar::TokenKind;
+
+// The store takes numbers of blank nodes below this one.
+const MOST_BLANKS: u32 = 1 << 31;
+
+/// What a statement is read in: the base, what prefixes and labels stand for, the next number of a blank node, and the triples.
+#[derive(Drop)]
+pub struct Environment {
+    alloc: Global,
+    base: Text,
+    prefixes: IndexMap<Text, Text, SeededHash>,
+    labels: IndexMap<Text, u32, SeededHash>,
+    blanks: u32,
+    store: Store,
+    // the rows that were there before the document's
+    before: usize,
+    ghost absolute: { is_some (scheme_of base) ≡ true },
+    ghost held: { before ≤ length store },
+}
+
+fn is_numbered(term: &Term) -> bool
+    ensures { IsTrue result ↔ (blanks_of_term term.now ≤ 2 ^ 31) }
+{
+    match term {
+        Term::Blank(number) => *number < MOST_BLANKS,
+        _ => true,
+    }
+}
+
+fn are_numbered(triple: &Triple) -> bool
+    ensures { IsTrue result ↔ (blanks_of_triple triple.now ≤ 2 ^ 31) }
+{
+    is_numbered(&triple.s) && is_numbered(&triple.p) && is_numbered(&triple.o)
+}
+
+impl Environment {
+    ghost use Rattle.std.specs.Prelude.{◌≡◌, true, is_some, IfOk, OnOk};
+    ghost use Rattle.iri_resolve.specs.Components.{scheme_of};
+    ghost use Rattle.turtle_document.specs.Meaning as meaning;
+    ghost use Rattle.turtle_read.specs.Moves as moves;
+    ghost use Rattle.turtle_document.specs.Meaning.{numbered, beginning};
+    ghost use Rattle.turtle_read.specs.Faults.{leaf_of, Gives};
+    ghost use Rattle.turtle_read.specs.States.{state_of, with_prefix, kept_of};
+
+    #[tactic(auto, using(crate::proofs::Adds::all_kept), unfolding(crate::specs::States::kept_of))]
+    /// The environment of a document's beginning.
+    pub fn new(alloc: Global, base: Text, store: Store, hashing: SeededHash) -> Self
+        requires { is_some (scheme_of base) ≡ true }
+        ensures state { state_of result ≡ beginning base store }
+        ensures kept { kept_of result ≡ store }
+    {
+        let blanks = store.blanks();
+        let before = store.rows().len();
+        Environment {
+            alloc,
+            base,
+            prefixes: IndexMap::with_hasher(alloc, hashing),
+            labels: IndexMap::with_hasher(alloc, hashing),
+            blanks,
+            store,
+            before,
+        }
+    }
+
+    #[tactic(auto, using(crate::proofs::Adds::kept_added, crate::proofs::Adds::held_added, crate::proofs::Adds::kept_same), unfolding(crate::specs::States::kept_of))]
+    /// Adds a triple, once its object has been read up to the token at `at`.
+    pub fn add(&mut self, at: usize, s: Term, p: Term, o: Term) -> Result<(), TurtleFault>
+        ensures value { Gives (λ _. state_of self.new) result (moves.add at s p o (state_of self.old)) }
+        ensures kept { kept_of self.new ≡ kept_of self.old }
+    {
+        let triple = Triple { s, p, o };
+        if !are_numbered(&triple) {
+            return Err(TurtleFault::NoMemory);
+        }
+        let is_full = self.store.rows().len() >= MOST_ROWS;
+        match self.store.add(triple) {
+            Ok(is_new) => {
+                if is_new && is_full {
+                    return Err(TurtleFault::StoreFull(at));
+                }
+                Ok(())
+            }
+            Err(StoreFault::Full) => Err(TurtleFault::StoreFull(at)),
+            Err(StoreFault::NoMemory) => Err(TurtleFault::NoMemory),
+        }
+    }
+
+    #[tactic(auto, unfolding(crate::specs::States::kept_of))]
+    /// The number of a new blank node.
+    pub fn number(&mut self) -> Result<u32, NoMemory>
+        ensures number { IfOk result (λ node. node ≡ self.old.blanks) }
+        ensures next { OnOk result (state_of self.new ≡ numbered (state_of self.old)) }
+        ensures kept { kept_of self.new ≡ kept_of self.old }
+    {
+        let node = self.blanks;
+        let Some(next) = node.checked_add(1) else {
+            return Err(NoMemory);
+        };
+        self.blanks = next;
+        Ok(node)
+    }
+
+    #[tactic(auto, unfolding(crate::specs::States::kept_of))]
+    /// The blank node of a label, numbered at its first use.
+    pub fn labelled(&mut self, label: &str) -> Result<Term, NoMemory>
+        ensures value { IfOk result (λ term. meaning.labelled label.now (state_of self.old) ≡ meaning.read term (state_of self.new)) }
+        ensures kept { kept_of self.new ≡ kept_of self.old }
+    {
+        if let Some(number) = self.labels.get(Name(label)) {
+            return Ok(Term::Blank(*number));
+        }
+        let number = self.number()?;
+        let label = Text::from_str(self.alloc, label)?;
+        self.labels.insert(label, number)?;
+        Ok(Term::Blank(number))
+    }
+
+    #[tactic(auto, unfolding(crate::specs::States::kept_of))]
+    /// A prefix stands for a namespace from here on.
+    pub fn bind(&mut self, prefix: Text, namespace: Text) -> Result<(), NoMemory>
+        ensures value { OnOk result (state_of self.new ≡ with_prefix prefix namespace (state_of self.old)) }
+        ensures kept { kept_of self.new ≡ kept_of self.old }
+    {
+        self.prefixes.insert(prefix, namespace)?;
+        Ok(())
+    }
+
+    #[tactic(auto, unfolding(crate::specs::States::kept_of, crate::specs::Moves::based_on, crate::specs::Moves::absolute))]
+    /// The IRI of a reference is the base from here on.
+    pub fn set_base(&mut self, token: Lexeme<'_>) -> Result<(), TurtleFault>
+        ensures value { Gives (λ _. state_of self.new) result (moves.based_on (leaf_of token.entry) (state_of self.old)) }
+        ensures kept { kept_of self.new ≡ kept_of self.old }
+    {
+        self.base = self.absolute(token)?;
+        Ok(())
+    }
+
+    /// The IRI of a reference, seen from the base.
+    pub fn absolute(&self, token: Lexeme<'_>) -> Result<Text, TurtleFault>
+        ensures value { Gives (λ iri. iri) result (moves.absolute self.now.base (leaf_of token.entry)) }
+        ensures scheme { IfOk result (λ iri. is_some (scheme_of iri) ≡ true) }
+    {
+        let reference = turtle_value::reference_text(self.alloc, token.text)?;
+        match resolve(self.alloc, &self.base, reference.as_bytes()) {
+            Ok(iri) => Ok(iri),
+            Err(IriFault::BadChar(_)) => Err(TurtleFault::BadIri(token.at)),
+            Err(IriFault::NotAbsoluteBase) => unreachable!(),
+            Err(IriFault::NoMemory) => Err(TurtleFault::NoMemory),
+        }
+    }
+
+    #[tactic(auto, unfolding(crate::specs::Moves::expanded))]
+    /// The IRI of a prefixed name.
+    fn expanded(&self, token: Lexeme<'_>) -> Result<Text, TurtleFault>
+        ensures { Gives (λ iri. iri) result (moves.expanded (leaf_of token.entry) (state_of self.now)) }
+    {
+        let prefix = turtle_value::prefix_text(token.text);
+        match self.prefixes.get(Name(prefix)) {
+            Some(namespace) => Ok(turtle_value::expand(self.alloc, namespace, token.text)?),
+            None => Err(TurtleFault::NoPrefix(token.at)),
+        }
+    }
+
+    #[tactic(auto, unfolding(crate::specs::Moves::named, crate::specs::Moves::absolute, crate::specs::Moves::expanded))]
+    /// The IRI that a token names, `None` where it is no name.
+    pub fn iri_of(&self, token: Lexeme<'_>) -> Result<Option<Text>, TurtleFault>
+        ensures { Gives (λ iri. iri) result (moves.named token.entry.kind (leaf_of token.entry) (state_of self.now)) }
+    {
+        match token.kind {
+            TokenKind::Iri => Ok(Some(self.absolute(token)?)),
+            TokenKind::PrefixedName | TokenKind::Namespace => Ok(Some(self.expanded(token)?)),
+            _ => Ok(None),
+        }
+    }
+
+    /// The store with the triples that were read.
+    pub fn into_store(self) -> Store
+        ensures { result ≡ (state_of self).rows }
+    {
+        self.store
+    }
+}

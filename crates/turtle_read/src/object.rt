@@ -1,0 +1,94 @@
+use crate::TurtleFault;
+use crate::kinds::quotes_of;
+use crate::lexeme::Lexeme;
+use crate::reader::Reader;
+use lv_base::Text;
+use triple_store::Term;
+use turtle_document::{Chain, Expected, Hole};
+use turtle_grammar::TokenKind;
+
+impl Reader {
+    ghost use Rattle.std.specs.Prelude.{◌≡◌};
+    ghost use Rattle.turtle_read.specs.Moves as machine;
+    ghost use Rattle.turtle_read.specs.Faults.{leaf_of, Follows};
+    ghost use Rattle.turtle_read.specs.Readers.{config_of, inside, kept};
+
+    // The first token of an object that fills a hole.
+    pub(crate) fn begin_object(&mut self, token: Lexeme<'_>, hole: Hole) -> Result<(), TurtleFault>
+        ensures moves { Follows token.entry.at result (config_of self.new) (inside self.new) (machine.begin_object token.entry.kind hole (leaf_of token.entry) self.old.outer (inside self.old)) }
+        ensures kept { kept self.new ≡ kept self.old }
+    {
+        match quotes_of(token.kind) {
+            Some(quotes) => {
+                let text = turtle_value::string_text(self.alloc, quotes, token.text)?;
+                self.expect(Expected::Suffix {
+                    text,
+                    at: token.at,
+                    hole,
+                });
+                Ok(())
+            }
+            None => self.begin_short(token, hole),
+        }
+    }
+
+    // The first token of an object that is no string.
+    fn begin_short(&mut self, token: Lexeme<'_>, hole: Hole) -> Result<(), TurtleFault>
+        ensures moves { Follows token.entry.at result (config_of self.new) (inside self.new) (machine.begin_short token.entry.kind hole (leaf_of token.entry) self.old.outer (inside self.old)) }
+        ensures kept { kept self.new ≡ kept self.old }
+    {
+        match self.words.datatype_of(token.kind) {
+            Some(datatype) => {
+                let datatype = datatype.clone()?;
+                let text = Text::from_str(self.alloc, token.text)?;
+                let term = self.words.typed(text, datatype)?;
+                self.fill(hole, token.at, term)
+            }
+            None => self.begin_resource(token, hole),
+        }
+    }
+
+    // The first token of an IRI or a blank node.
+    pub(crate) fn begin_resource(
+        &mut self,
+        token: Lexeme<'_>,
+        hole: Hole,
+    ) -> Result<(), TurtleFault>
+        ensures moves { Follows token.entry.at result (config_of self.new) (inside self.new) (machine.begin_resource token.entry.kind hole (leaf_of token.entry) self.old.outer (inside self.old)) }
+        ensures kept { kept self.new ≡ kept self.old }
+    {
+        match self.environment.iri_of(token)? {
+            Some(iri) => self.fill(hole, token.at, Term::Iri(iri)),
+            None => self.begin_node(token, hole),
+        }
+    }
+
+    // The first token of a blank node.
+    fn begin_node(&mut self, token: Lexeme<'_>, hole: Hole) -> Result<(), TurtleFault>
+        ensures moves { Follows token.entry.at result (config_of self.new) (inside self.new) (machine.begin_node token.entry.kind hole (leaf_of token.entry) self.old.outer (inside self.old)) }
+        ensures kept { kept self.new ≡ kept self.old }
+    {
+        match token.kind {
+            TokenKind::BlankLabel => {
+                let term = self.environment.labelled(token.text)?;
+                self.fill(hole, token.at, term)
+            }
+            TokenKind::OpenSquare => {
+                self.may_open(token.at)?;
+                let node = self.environment.number()?;
+                self.outer.push(hole)?;
+                self.expect(Expected::Property { node });
+                Ok(())
+            }
+            TokenKind::OpenRound => {
+                self.may_open(token.at)?;
+                self.outer.push(hole)?;
+                self.expect(Expected::Item {
+                    chain: Chain::Empty,
+                });
+                Ok(())
+            }
+            _ => Err(TurtleFault::Syntax(token.at)),
+        }
+    }
+}
