@@ -1,6 +1,6 @@
 -- Why a script is refused, from what its readers answer.
 use Rattle.std.proofs.Common.{◌≡◌, ℕ, ◌≤◌, List, length, Some, IsTrue, Result, Ok, Err, sym, subst}
-use Rattle.std.specs.Prelude.{IfOk, IfErr, IsErrAnd}
+use Rattle.std.specs.Prelude.{IfErr, IsErrAnd}
 use Rattle.session_script.specs.declared.session.Session.{Session}
 use Rattle.session_script.specs.declared.fault.ScriptFault.{ScriptFault}
 use Rattle.session_script.specs.declared.fault.ScriptFault.TheVariants.{Bad, Limit, NoMemory as Want}
@@ -30,10 +30,6 @@ unformed bytes s Wanting session h = tt
 pub passed_on : (bytes : List ℕ) (r : Result Session Refusal) (refusal : Refusal) → IsErrAnd r (λ e. e ≡ refusal) → IsNoSession bytes refusal → IfErr r (IsNoSession bytes)
 passed_on bytes (Ok session) refusal h why = absurd h
 passed_on bytes (Err e) refusal h why = subst (IsNoSession bytes) (sym h) why
-
-pub not_ok : {P : Session → Type 0} (r : Result Session Refusal) (refusal : Refusal) → IsErrAnd r (λ e. e ≡ refusal) → IfOk r P
-not_ok (Ok session) refusal h = absurd h
-not_ok (Err e) refusal h = tt
 
 -- what is of the form is what the script says
 pub session_of_form : (bytes : List ℕ) (a b : Session) → IsSessionOf bytes a → IsFormed bytes b → IsSessionOf bytes b
