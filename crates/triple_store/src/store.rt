@@ -82,6 +82,11 @@ impl Store {
         self.blanks.last().copied().unwrap_or(0)
     }
 
+    /// How it hashes, for tables that are filled beside it from the same source.
+    pub fn hashing(&self) -> SeededHash {
+        *self.rows.hasher()
+    }
+
     /// Adds a triple at the end where it is new, and answers whether it was. Blank numbers are below 2^31. It hashes the triple
     /// once, and its subject where the triple is new; the time doesn't grow with the rows.
     ///
