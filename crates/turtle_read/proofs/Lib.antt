@@ -5,3 +5,5 @@ pub mod Schemes
 pub mod Tokens
 pub mod Stops
 pub mod Moves
+pub mod Taken
+pub mod Told

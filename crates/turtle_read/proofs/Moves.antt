@@ -1,5 +1,5 @@
 -- What each function of the moves is at each kind of token.
-use Rattle.std.proofs.Common.{◌≡◌, ◌≢◌, ℕ, Bool, true, false, cond, List, [], ◌∷◌, Option, None, Some, Result, Ok, Err, refl, ap, sym, subst, ◌∙◌, length}
+use Rattle.std.proofs.Common.{◌≡◌, ◌≢◌, ◌⊎◌, inl, inr, ℕ, Bool, true, false, cond, not, ◌==◌, List, [], ◌∷◌, Option, None, Some, Result, Ok, Err, refl, ap, sym, subst, ◌∙◌, length, ne_eqb, suc-ne-zero}
 use Rattle.std.specs.Prelude.{codes}
 use Rattle.std.specs.Str.{bytes_eq}
 use Rattle.triple_store.specs.declared.term.Term.{Term}
@@ -23,8 +23,11 @@ use Rattle.turtle_document.specs.declared.expected.Hole.TheVariants as holes
 use Rattle.std.specs.Option.{option_map}
 use Rattle.turtle_value.specs.Quotings.{quoting_of}
 use Rattle.turtle_value.specs.declared.quoted.Quotes.{Quotes}
+use Rattle.turtle_read.specs.Faults.{Stops}
 use Rattle.turtle_read.specs.States.{with_prefix}
-use Rattle.turtle_read.proofs.Stops.{at_name, at_none, at_fault}
+use Rattle.turtle_read.specs.declared.fault.TurtleFault.{TurtleFault}
+use Rattle.turtle_read.specs.declared.fault.TurtleFault.TheVariants.{Lex, Syntax, NoPrefix, BadIri, Depth, StoreFull, NoMemory}
+use Rattle.turtle_read.proofs.Stops.{at_name, at_none, at_fault, started_at, not_started}
 use Rattle.turtle_read.specs.Moves.{at_a, end_statement, absolute, based_on, add, named, filled, closed, begin_node, begin_resource, begin_short, begin_object, started_by, linked, ended, begin_item, in_collection, at_verb, at_end, after_object, after_semicolon, after_listed, in_brackets, at_directive, at_statement, at_prefix, at_namespace, at_base, at_dot, typed_by, plain_move, follows, after_string, move}
 
 -- ---- holes
@@ -324,11 +327,6 @@ pub move_string : (text : List ℕ) (at : ℕ) (hole : Hole) (outer : List Hole)
 unfolding move after_string
 move_string text at hole outer kind leaf st = refl
 
--- whether a string waits
-abbrev pub waits : Expected → Bool
-waits (expect.Suffix text at hole) = true
-waits _ = false
-
 pub move_plain : (next : Expected) (outer : List Hole) (kind : TokenKind) (leaf : Leaf) (st : State)
     → ((text : List ℕ) (at : ℕ) (hole : Hole) → next ≢ expect.Suffix text at hole) → move (config next outer) kind leaf st ≡ plain_move next outer kind leaf st
 unfolding move plain_move
@@ -374,6 +372,76 @@ string_other kind leaf text at hole outer st n m =
     plainly kinds.DoubleCaret n m = absurd (m refl)
     plainly _ n m = refl
 
+-- a string alone, and on with the token
+pub string_on : (kind : TokenKind) (leaf : Leaf) (text : List ℕ) (at : ℕ) (hole : Hole) (outer : List Hole) (st : State) (term : Term)
+    → kind ≢ kinds.LanguageTag → kind ≢ kinds.DoubleCaret → follows hole outer kind ≡ true → term ≡ terms.Literal text xsd_string []
+    → after_string kind leaf text at hole outer st ≡ go_on (filled hole at term outer st) kind leaf
+string_on kind leaf text at hole outer st term n m e t =
+    string_other kind leaf text at hole outer st n m
+    ∙ ap (λ b. cond b (go_on (filled hole at (terms.Literal text xsd_string []) outer st) kind leaf) stuck) e
+    ∙ ap (λ x. go_on (filled hole at x outer st) kind leaf) (sym t)
+
+pub string_off : (kind : TokenKind) (leaf : Leaf) (text : List ℕ) (at : ℕ) (hole : Hole) (outer : List Hole) (st : State)
+    → kind ≢ kinds.LanguageTag → kind ≢ kinds.DoubleCaret → follows hole outer kind ≡ false → after_string kind leaf text at hole outer st ≡ stuck
+string_off kind leaf text at hole outer st n m e =
+    string_other kind leaf text at hole outer st n m ∙ ap (λ b. cond b (go_on (filled hole at (terms.Literal text xsd_string []) outer st) kind leaf) stuck) e
+
+-- a fault of a string's hole is one of the whole
+pub stops_going : (at : ℕ) (fault : TurtleFault) (m : Move) (kind : TokenKind) (leaf : Leaf) → Stops at fault m → Stops at fault (go_on m kind leaf)
+stops_going at (Lex fault) m kind leaf h = absurd h
+stops_going at (Syntax place) m kind leaf h = (h.0, ap (λ x. go_on x kind leaf) h.1)
+stops_going at (NoPrefix place) m kind leaf h = ap (λ x. go_on x kind leaf) h
+stops_going at (BadIri place) m kind leaf h = ap (λ x. go_on x kind leaf) h
+stops_going at (Depth place) m kind leaf h = ap (λ x. go_on x kind leaf) h
+stops_going at (StoreFull place) m kind leaf h = ap (λ x. go_on x kind leaf) h
+stops_going at NoMemory m kind leaf h = tt
+
+-- a fault at an equal move
+pub stops_as : (at : ℕ) (fault : TurtleFault) (m n : Move) → n ≡ m → Stops at fault m → Stops at fault n
+stops_as at fault m n e h = let P : Move → Type 0 = λ v. Stops at fault v in subst P (sym e) h
+
+-- ---- what follows an object
+
+pub follows_more : (s p : Term) (outer : List Hole) (kind : TokenKind) → (kind ≡ kinds.Comma) ⊎ (kind ≡ kinds.Semicolon) → follows (holes.Object s p) outer kind ≡ true
+unfolding follows
+follows_more s p outer kind (inl e) = ap (machine.follows (holes.Object s p) outer) e
+follows_more s p outer kind (inr e) = ap (machine.follows (holes.Object s p) outer) e
+
+pub follows_dot : (s p : Term) (outer : List Hole) → follows (holes.Object s p) outer kinds.Dot ≡ (length outer == 0)
+unfolding follows
+follows_dot s p [] = refl
+follows_dot s p (hole ∷ outer) = sym (ne_eqb (length (hole ∷ outer)) 0 (suc-ne-zero (length outer)))
+
+pub follows_close : (s p : Term) (outer : List Hole) → follows (holes.Object s p) outer kinds.CloseSquare ≡ not (length outer == 0)
+unfolding follows
+follows_close s p [] = refl
+follows_close s p (hole ∷ outer) = sym (ap not (ne_eqb (length (hole ∷ outer)) 0 (suc-ne-zero (length outer))))
+
+pub follows_not : (s p : Term) (outer : List Hole) (kind : TokenKind) → kind ≢ kinds.Comma → kind ≢ kinds.Semicolon → kind ≢ kinds.Dot → kind ≢ kinds.CloseSquare
+    → follows (holes.Object s p) outer kind ≡ false
+unfolding follows
+follows_not s p outer kinds.Comma c d e f = absurd (c refl)
+follows_not s p outer kinds.Semicolon c d e f = absurd (d refl)
+follows_not s p outer kinds.Dot c d e f = absurd (e refl)
+follows_not s p outer kinds.CloseSquare c d e f = absurd (f refl)
+follows_not s p outer _ c d e f = refl
+
+pub follows_last : (first node : ℕ) (outer : List Hole) → follows (holes.Item first node) outer kinds.CloseRound ≡ true
+unfolding follows
+follows_last first node outer = refl
+
+pub follows_item : (first node : ℕ) (outer : List Hole) (kind : TokenKind) → kind ≢ kinds.CloseRound → follows (holes.Item first node) outer kind ≡ begins_object kind
+unfolding follows
+follows_item first node outer kinds.CloseRound n = absurd (n refl)
+follows_item first node outer _ n = refl
+
+pub follows_subject : (hole : Hole) (outer : List Hole) (kind : TokenKind) → (hole ≡ holes.Subject) ⊎ (hole ≡ holes.ListedSubject) → follows hole outer kind ≡ false
+unfolding follows
+follows_subject hole outer kind (inl e) = ap (λ h. machine.follows h outer kind) e
+follows_subject hole outer kind (inr e) = ap (λ h. machine.follows h outer kind) e
+
+-- ---- datatypes
+
 pub typed_named : (kind : TokenKind) (leaf : Leaf) (text : List ℕ) (hole : Hole) (outer : List Hole) (st : State) (iri : List ℕ) (term : Term)
     → named kind leaf st ≡ Ok (Some iri) → term ≡ terms.Literal text iri [] → typed_by kind leaf text hole outer st ≡ filled hole leaf.at term outer st
 unfolding named typed_by filled
@@ -394,9 +462,28 @@ typed_none kind leaf text hole outer st e = at_none st (λ n. machine.typed_by n
 
 -- ---- collections
 
-pub started_open : (leaf : Leaf) (n : ℕ) (st : State) → (started_by kinds.OpenSquare leaf n st ≡ may_open leaf.at n st) × (started_by kinds.OpenRound leaf n st ≡ may_open leaf.at n st)
+pub started_open : (kind : TokenKind) (leaf : Leaf) (n : ℕ) (st : State) → (kind ≡ kinds.OpenSquare) ⊎ (kind ≡ kinds.OpenRound)
+    → started_by kind leaf n st ≡ may_open leaf.at n st
 unfolding started_by
-started_open leaf n st = (refl, refl)
+started_open kind leaf n st (inl e) = ap (λ k. machine.started_by k leaf n st) e
+started_open kind leaf n st (inr e) = ap (λ k. machine.started_by k leaf n st) e
+
+-- a token that opens no bracket has the fault of its IRI, if it is a name that has one
+started_plain : (kind : TokenKind) (leaf : Leaf) (n : ℕ) (st : State) → kind ≢ kinds.OpenSquare → kind ≢ kinds.OpenRound
+    → machine.started_by kind leaf n st ≡ machine.started_name (as_name kind leaf) st
+started_plain kinds.OpenSquare leaf n st s r = absurd (s refl)
+started_plain kinds.OpenRound leaf n st s r = absurd (r refl)
+started_plain _ leaf n st s r = refl
+
+pub started_named : (kind : TokenKind) (leaf : Leaf) (n : ℕ) (st : State) (iri : Option (List ℕ)) → kind ≢ kinds.OpenSquare → kind ≢ kinds.OpenRound
+    → named kind leaf st ≡ Ok iri → started_by kind leaf n st ≡ Ok st
+unfolding named started_by
+started_named kind leaf n st iri s r e = started_plain kind leaf n st s r ∙ started_at st iri (as_name kind leaf) e
+
+pub started_fault : (kind : TokenKind) (leaf : Leaf) (n : ℕ) (st : State) (f : Fault) → kind ≢ kinds.OpenSquare → kind ≢ kinds.OpenRound
+    → named kind leaf st ≡ Err f → started_by kind leaf n st ≡ Err f
+unfolding named started_by
+started_fault kind leaf n st f s r e = started_plain kind leaf n st s r ∙ not_started st f (as_name kind leaf) e
 
 pub link_none : (at node : ℕ) (st : State) → linked chains.Empty at node st ≡ Ok st
 unfolding linked
@@ -525,3 +612,22 @@ pub namespace_other : (kind : TokenKind) (leaf : Leaf) (dot : Bool) (prefix : Li
 unfolding at_namespace
 namespace_other kinds.Iri leaf dot prefix outer st n = absurd (n refl)
 namespace_other _ leaf dot prefix outer st n = refl
+
+pub prefix_namespace : (leaf : Leaf) (dot : Bool) (outer : List Hole) (st : State) (prefix : List ℕ) → prefix ≡ prefix_of leaf.text
+    → at_prefix kinds.Namespace leaf dot outer st ≡ to (config (expect.Namespace dot prefix) outer) st
+unfolding at_prefix
+prefix_namespace leaf dot outer st prefix e = ap (λ x. to (config (expect.Namespace dot x) outer) st) (sym e)
+
+pub prefix_other : (kind : TokenKind) (leaf : Leaf) (dot : Bool) (outer : List Hole) (st : State) → kind ≢ kinds.Namespace → at_prefix kind leaf dot outer st ≡ stuck
+unfolding at_prefix
+prefix_other kinds.Namespace leaf dot outer st n = absurd (n refl)
+prefix_other _ leaf dot outer st n = refl
+
+pub dot_ends : (outer : List Hole) (st : State) → at_dot kinds.Dot outer st ≡ to (config expect.Statement outer) st
+unfolding at_dot
+dot_ends outer st = refl
+
+pub dot_other : (kind : TokenKind) (outer : List Hole) (st : State) → kind ≢ kinds.Dot → at_dot kind outer st ≡ stuck
+unfolding at_dot
+dot_other kinds.Dot outer st n = absurd (n refl)
+dot_other _ outer st n = refl

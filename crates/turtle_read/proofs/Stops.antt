@@ -2,10 +2,10 @@
 use Rattle.std.proofs.Common.{◌≡◌, ℕ, refl, ap, sym, subst, ◌∙◌, Result, Ok, Err, IsErrAnd, Option, None, Some, List}
 use Rattle.turtle_document.specs.Meaning.{Fault, State, ◌>>=◌, name_of}
 use Rattle.turtle_document.specs.Meaning.Fault.{no_prefix, bad_iri, too_deep, full_store}
-use Rattle.turtle_document.specs.Machine.{Config, Move, on}
+use Rattle.turtle_document.specs.Machine.{Config, Move, on, started_name}
 use Rattle.turtle_document.specs.Machine.Move.{to, stuck, fails}
 use Rattle.turtle_grammar.specs.Tree.{Name}
-use Rattle.turtle_read.specs.Faults.{Refuses, Stops, Follows, Leads}
+use Rattle.turtle_read.specs.Faults.{Refuses, Gives, Stops, Follows, Leads}
 use Rattle.turtle_read.specs.Names.{iri_of}
 use Rattle.turtle_read.specs.declared.fault.TurtleFault.{TurtleFault}
 use Rattle.turtle_read.specs.declared.fault.TurtleFault.TheVariants.{Lex, Syntax, NoPrefix, BadIri, Depth, StoreFull, NoMemory}
@@ -63,8 +63,34 @@ at_fault st F k h (Some name) f e = h name ∙ by (name_of name st) e
     by (Ok x) e = cc
     by (Err g) e = let same : g ≡ f = cc in ap fails same
 
+-- An object may start with a name that has an IRI, and with what is no name.
+pub started_at : (st : State) (iri : Option (List ℕ)) (n : Option Name) → iri_of n st ≡ Ok iri → started_name n st ≡ Ok st
+started_at st iri None e = refl
+started_at st iri (Some name) e = by (name_of name st) e
+  where
+    by : (r : Result (List ℕ) Fault) → (r >>= (λ (x : List ℕ). Ok (Some x))) ≡ Ok iri → (r >>= (λ (x : List ℕ). Ok st)) ≡ Ok st
+    by (Ok x) e = refl
+    by (Err f) e = cc
+
+pub not_started : (st : State) (f : Fault) (n : Option Name) → iri_of n st ≡ Err f → started_name n st ≡ Err f
+not_started st f None e = cc
+not_started st f (Some name) e = by (name_of name st) e
+  where
+    by : (r : Result (List ℕ) Fault) → (r >>= (λ (x : List ℕ). Ok (Some x))) ≡ Err f → (r >>= (λ (x : List ℕ). Ok st)) ≡ Err f
+    by (Ok x) e = cc
+    by (Err g) e = let same : g ≡ f = cc in ap Err same
+
 -- a fault that `?` hands on
 pub residual : {T : Type 0} (at : ℕ) (r : Result T TurtleFault) (fault : TurtleFault) (c : Config) (st : State) (m : Move)
     → IsErrAnd r (λ made. made ≡ fault) → Stops at fault m → Follows at r c st m
 residual at (Ok x) fault c st m h s = absurd h
 residual at (Err made) fault c st m h s = let P : TurtleFault → Type 0 = λ f. Stops at f m in subst P (sym h) s
+
+-- The same of an answer that gives a value: it is one of an equal meaning, or the fault that `?` hands on.
+pub gives_as : {T A : Type 0} (value : T → A) (r : Result T TurtleFault) (m n : Result A Fault) → n ≡ m → Gives value r m → Gives value r n
+gives_as {T} {A} value r m n e h = let P : Result A Fault → Type 0 = λ v. Gives value r v in subst P (sym e) h
+
+pub gives_fault : {T A : Type 0} (value : T → A) (r : Result T TurtleFault) (fault : TurtleFault) (m : Result A Fault)
+    → IsErrAnd r (λ made. made ≡ fault) → Refuses fault (λ f. m ≡ Err f) → Gives value r m
+gives_fault value (Ok x) fault m h s = absurd h
+gives_fault value (Err made) fault m h s = let P : TurtleFault → Type 0 = λ g. Refuses g (λ f. m ≡ Err f) in subst P (sym h) s

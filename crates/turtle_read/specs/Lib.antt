@@ -5,3 +5,4 @@ pub mod States
 pub mod Readers
 pub mod Vocabularies
 pub mod Moves
+pub mod Tokens

@@ -192,4 +192,14 @@ impl Environment {
     {
         self.store
     }
+
+    #[tactic(auto, unfolding(crate::specs::States::kept_of))]
+    /// The store as it was before the document.
+    pub fn into_old_store(self) -> Store
+        ensures { result ≡ kept_of self }
+    {
+        let mut store = self.store;
+        store.cut(self.before);
+        store
+    }
 }

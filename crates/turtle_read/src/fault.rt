@@ -39,3 +39,11 @@ impl From<AllocError> for TurtleFault {
         TurtleFault::NoMemory
     }
 }
+
+impl From<LexFault> for TurtleFault {
+    ghost from_gives = { λ fault made. made ≡ faults.Lex fault };
+
+    fn from(fault: LexFault) -> Self {
+        TurtleFault::Lex(fault)
+    }
+}

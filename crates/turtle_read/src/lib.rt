@@ -1,6 +1,9 @@
 //! The triples of Turtle 1.1 documents.
 #![tactic(auto)]
 
+mod collection;
+mod directive;
+mod document;
 mod environment;
 mod fault;
 mod fill;
@@ -10,7 +13,11 @@ mod lexeme;
 mod name;
 mod object;
 mod reader;
+mod string;
+#[cfg(test)]
+mod tests;
 mod verb;
 mod vocabulary;
 
+pub use document::read;
 pub use fault::TurtleFault;

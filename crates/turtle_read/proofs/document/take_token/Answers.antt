@@ -1,0 +1,14 @@
+use Rattle.std.proofs.Common.{arith}
+use Rattle.std.proofs.lemmas.Str.{IsCharBoundary-from_drop}
+use Rattle.turtle_read.proofs.Tokens.{lies}
+use Rattle.turtle_read.proofs.document.take_token.Goals as goal
+
+pub range-requires-clause-start_boundary : goal.range-requires-clause-start_boundary
+range-requires-clause-start_boundary c =
+    let l = lies c.args.text.now c.requires.place c.args.token c.requires.within c.requires.utf8 c.requires.comes in
+    λ _. IsCharBoundary-from_drop c.args.text.now c.args.token.at (omega (arith, l.some, l.within)) l.begins
+
+pub range-requires-clause-end_boundary : goal.range-requires-clause-end_boundary
+range-requires-clause-end_boundary c =
+    let l = lies c.args.text.now c.requires.place c.args.token c.requires.within c.requires.utf8 c.requires.comes in
+    IsCharBoundary-from_drop c.args.text.now c.args.token.upto l.within l.ends

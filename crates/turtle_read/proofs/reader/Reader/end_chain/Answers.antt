@@ -1,0 +1,19 @@
+use Rattle.std.proofs.Common.{ap, sym, ◌∙◌}
+use Rattle.triple_store.specs.declared.term.Term.TheVariants as terms
+use Rattle.turtle_document.specs.Vocabulary.{rdf_nil}
+use Rattle.turtle_read.specs.Moves as moves
+use Rattle.turtle_read.specs.Readers.{inside}
+use Rattle.turtle_read.proofs.Moves as laws
+use Rattle.turtle_read.proofs.Stops.{gives_as}
+use Rattle.turtle_read.proofs.reader.Reader.end_chain.Goals as goal
+
+pub returns-in_default-clause-value : goal.returns-in_default-clause-value
+returns-in_default-clause-value c =
+    ap (λ x. moves.ended x c.args.at (inside c.args.self.now)) c.in_default.is ∙ laws.end_none c.args.at (inside c.args.self.now)
+
+pub returns-clause-value : goal.returns-clause-value
+returns-clause-value c =
+    gives_as _ c.add.result _ _
+    (ap (λ x. moves.ended x c.args.at (inside c.args.self.now)) c.in-Nodes.is ∙ laws.end_last c.in-Nodes.first c.in-Nodes.last c.args.at (inside c.args.self.now)
+    ∙ ap (λ p. moves.add c.args.at (terms.Blank c.in-Nodes.last) p (terms.Iri rdf_nil) (inside c.args.self.now)) (sym c.in_ok-rest.ensures) ∙ ap (λ o. moves.add c.args.at (terms.Blank c.in-Nodes.last) c.in_ok-rest.rest o (inside c.args.self.now)) (sym c.in_ok-nil.ensures))
+    c.add.ensures.value

@@ -1,0 +1,32 @@
+use Rattle.std.proofs.Common.{◌∙◌, refl, ap, sym}
+use Rattle.turtle_read.specs.Faults.{leaf_of}
+use Rattle.turtle_read.specs.Moves as moves
+use Rattle.turtle_read.specs.Readers.{inside}
+use Rattle.turtle_read.proofs.Moves as laws
+use Rattle.turtle_read.proofs.Stops.{follows_as, residual}
+use Rattle.turtle_read.proofs.reader.Reader.end_string.Goals as goal
+
+pub returns-then-not-follows-clause-moves : goal.returns-then-not-follows-clause-moves
+returns-then-not-follows-clause-moves c = (
+  refl,
+  laws.string_off c.args.token.kind (leaf_of c.args.token) c.args.text c.args.at c.args.hole c.args.self.now.outer (inside c.args.self.now)
+      c.requires.untagged c.requires.untyped (sym c.follows.ensures ∙ c.if-not-follows.true),
+)
+
+pub returns-in_err-fill-clause-moves : goal.returns-in_err-fill-clause-moves
+returns-in_err-fill-clause-moves c =
+    residual c.args.token.at c.from_residual-in_err-fill.result c.in_err-fill.field-0.0 _ _ _ c.from_residual-in_err-fill.ensures.1
+    (laws.stops_as c.args.token.at c.in_err-fill.field-0.0 _ _ (laws.string_on c.args.token.kind (leaf_of c.args.token) c.args.text c.args.at c.args.hole c.args.self.now.outer (inside c.args.self.now) c.in_ok-term.term
+    c.requires.untagged c.requires.untyped
+    (sym c.follows.ensures ∙ c.if-not-follows.false) c.in_ok-term.ensures)
+    (laws.stops_going c.args.token.at c.in_err-fill.field-0.0 _ c.args.token.kind (leaf_of c.args.token) (c.in_err-fill.ensures.moves c.args.token.at)))
+
+pub returns-clause-moves : goal.returns-clause-moves
+returns-clause-moves c =
+    follows_as c.args.token.at c.plain_step.result _ _ _ _ (laws.string_on c.args.token.kind (leaf_of c.args.token) c.args.text c.args.at c.args.hole c.args.self.now.outer (inside c.args.self.now) c.in_ok-term.term
+    c.requires.untagged c.requires.untyped
+    (sym c.follows.ensures ∙ c.if-not-follows.false) c.in_ok-term.ensures
+    ∙ ap (λ m. laws.go_on m c.args.token.kind (leaf_of c.args.token)) (c.in_ok-fill.ensures.moves c.args.token.at)
+    ∙ ap (λ n. moves.plain_move n c.fill.new.self.outer c.args.token.kind (leaf_of c.args.token) (inside c.fill.new.self)) (sym c.take_next-next.ensures.next)
+    ∙ ap (λ s. moves.plain_move c.take_next-next.result s.outer c.args.token.kind (leaf_of c.args.token) (inside s)) (sym c.take_next-next.ensures.rest))
+    c.plain_step.ensures.moves

@@ -1,0 +1,94 @@
+ghost use Rattle.std.specs.Prelude.{◌≡◌, ◌⊎◌, [], true, is_some, Err, OnOk, IfErr};
+ghost use Rattle.iri_resolve.specs.Components.{scheme_of};
+ghost use Rattle.turtle_document.specs.Answer.{Outcome, IsReadAs};
+ghost use Rattle.turtle_document.specs.Meaning.{beginning};
+ghost use Rattle.turtle_document.specs.declared.expected.Expected.TheVariants as expect;
+ghost use Rattle.turtle_read.specs.Answers.{Tells, ReadsDocument, answer_of};
+ghost use Rattle.turtle_read.specs.Faults.{Follows};
+ghost use Rattle.turtle_read.specs.Moves as machine;
+ghost use Rattle.turtle_read.specs.Readers.{config_of, inside, kept};
+ghost use Rattle.turtle_read.specs.Tokens.{IsTokenOf, leaf_in};
+
+use crate::TurtleFault;
+use crate::environment::Environment;
+use crate::lexeme::Lexeme;
+use crate::reader::Reader;
+use crate::vocabulary::Vocabulary;
+use lv_base::Text;
+use std::alloc::Global;
+use std::mem;
+use triple_store::Store;
+use turtle_document::Expected;
+use turtle_grammar::Token;
+use turtle_lex::{LexFault, Lexer};
+
+/// Reads a Turtle 1.1 document, whose relative IRIs are seen from `base`, and adds its triples to the store, each once, in the order
+/// in which their objects end. It answers how many of them are new. Blank nodes are numbered on from the store's.
+///
+/// Bytes that aren't UTF-8 are `NotUtf8`, whatever stands before them. Else the fault is the first one on the way from the first
+/// token to the last. After a fault the store has the rows that it had before.
+pub fn read(alloc: Global, base: &Text, bytes: &[u8], store: &mut Store) -> Result<u32, TurtleFault>
+    requires { is_some (scheme_of base.now) ≡ true }
+    ensures answers { ReadsDocument (beginning base.now store.old) bytes.now result store.new }
+    ensures told { (o : Outcome) → IsReadAs (beginning base.now store.old) bytes.now o → (result ≡ answer_of store.old o) ⊎ (result ≡ Err TurtleFault.NoMemory) }
+{
+    match simdutf8::compat::from_utf8(bytes) {
+        Ok(text) => read_text(alloc, base, text, store),
+        Err(fault) => Err(TurtleFault::Lex(LexFault::NotUtf8(fault.valid_up_to()))),
+    }
+}
+
+// Reads a document that is UTF-8.
+fn read_text(alloc: Global, base: &Text, text: &str, store: &mut Store) -> Result<u32, TurtleFault>
+    requires { is_some (scheme_of base.now) ≡ true }
+    ensures { ReadsDocument (beginning base.now store.old) text.now result store.new }
+{
+    let words = Vocabulary::new(alloc)?;
+    let base = base.clone()?;
+    let before = store.count();
+    let hashing = store.hashing();
+    let taken = mem::replace(store, Store::new(alloc));
+    let environment = Environment::new(alloc, base, taken, hashing);
+    let mut reader = Reader::new(alloc, words, environment);
+    match take_tokens(&mut reader, text) {
+        Ok(()) => {
+            *store = reader.into_store();
+            Ok(store.count() - before)
+        }
+        Err(fault) => {
+            *store = reader.into_old_store();
+            Err(fault)
+        }
+    }
+}
+
+// Takes all tokens of a text, up to its end or the first fault.
+fn take_tokens(reader: &mut Reader, text: &str) -> Result<(), TurtleFault>
+    requires next { reader.old.next ≡ expect.Statement }
+    requires outer { reader.old.outer ≡ [] }
+    ensures ok { OnOk result (IsReadAs (inside reader.old) text.now (Outcome.document (inside reader.new).rows)) }
+    ensures err { IfErr result (Tells (IsReadAs (inside reader.old) text.now)) }
+    ensures kept { kept reader.new ≡ kept reader.old }
+{
+    let mut lexer = Lexer::new(text.as_bytes());
+    while let Some(token) = turtle_lex::next(&mut lexer)? {
+        take_token(reader, text, token)?;
+    }
+    match reader.next {
+        Expected::Statement => Ok(()),
+        _ => Err(TurtleFault::Syntax(text.len())),
+    }
+}
+
+// Takes a token of a text.
+fn take_token(reader: &mut Reader, text: &str, token: Token) -> Result<(), TurtleFault>
+    requires { IsTokenOf text.now token }
+    ensures moves { Follows token.at result (config_of reader.new) (inside reader.new) (machine.move (config_of reader.old) token.kind (leaf_in text.now token) (inside reader.old)) }
+    ensures kept { kept reader.new ≡ kept reader.old }
+{
+    reader.step(Lexeme {
+        kind: token.kind,
+        at: token.at,
+        text: &text[token.at..token.upto],
+    })
+}
