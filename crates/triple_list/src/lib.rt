@@ -6,6 +6,7 @@ mod listing;
 mod term;
 
 pub use listing::push_listing;
+pub use term::push_term;
 
 #[cfg(test)]
 mod tests;

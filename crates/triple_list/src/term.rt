@@ -9,7 +9,8 @@ use triple_store::Term;
 /// The datatype of a literal that is written alone (RDF 1.1, section 3.3).
 const STRING: &str = "http://www.w3.org/2001/XMLSchema#string";
 
-pub(crate) fn push_term(into: &mut Bytes, term: &Term) -> Result<(), NoMemory>
+/// Adds a term as `push_listing` writes it. After a refusal `into` may hold a part of the term.
+pub fn push_term(into: &mut Bytes, term: &Term) -> Result<(), NoMemory>
     ensures { OnOk result (into.new ≡ into.old ++ term_text term.now) }
 {
     match term {
