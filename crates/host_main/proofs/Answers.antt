@@ -9,7 +9,7 @@ use Rattle.session_script.specs.Script.{IsSessionOf, IsFirstBroken, IsPast}
 use Rattle.session_script.specs.FirstPath.Script.{IsSessionOf as IsFormed}
 use Rattle.session_script.proofs.Laws.{no_line, no_limit, line_first}
 use Rattle.session_script.proofs.FirstPath.Laws.{not_both}
-use Rattle.host_main.specs.World.{VaultState, SinkState, IsSaid}
+use Rattle.lv_outside.specs.World.{VaultState, SinkState, IsSaid}
 use Rattle.host_main.specs.Status.{status_of, line_of, most_session_bytes}
 use Rattle.host_main.specs.Files.{IsFile}
 use Rattle.host_main.specs.Render.{IsLater, IsUnwritten, IsUnrendered, IsCaused, LeavesSink, Explains, IsOneOf, AnswersRender}

@@ -11,7 +11,7 @@ use Rattle.session_script.specs.Script.{IsSessionOf}
 use Rattle.session_script.specs.FirstPath.Answer.{Broken}
 use Rattle.session_script.specs.FirstPath.Script.{IsSessionOf as IsFormed}
 use Rattle.session_script.proofs.FirstPath.Same.{same_session}
-use Rattle.host_main.specs.World.{VaultState}
+use Rattle.lv_outside.specs.World.{VaultState}
 use Rattle.host_main.specs.Status.{refusal_of, refusal_of_form, most_session_bytes}
 use Rattle.host_main.specs.Render.{IsLater, IsNoSession, IsUnread}
 use Rattle.host_main.specs.declared.refusal.Refusal.{Refusal}

@@ -1,5 +1,4 @@
 pub mod Status
-pub mod World
 pub mod Files
 pub mod Render
 pub mod Words

@@ -1,7 +1,7 @@
 ghost use Rattle.std.specs.Prelude.{◌≡◌, ℕ, ◌≤◌, List, length, IfOk, IfErr, IsTrue, Some};
 ghost use Rattle.session_script.specs.FirstPath.Valid.{IsValid};
 ghost use Rattle.host_main.specs.Status.{most_session_bytes};
-ghost use Rattle.host_main.specs.World.{vault_at, LeavesFiles};
+ghost use Rattle.lv_outside.specs.World.{vault_at, LeavesFiles};
 ghost use Rattle.session_script.specs.Script.{IsSessionOf};
 ghost use Rattle.session_script.specs.FirstPath.Script.{IsSessionOf as IsFormed};
 ghost use Rattle.host_main.specs.Render.{IsRead, IsNoSession, IsUnread};

@@ -2,7 +2,7 @@ ghost use Rattle.std.specs.Prelude.{◌≡◌, ◌<◌, IfOk, IfErr, OnOk};
 ghost use Rattle.session_script.specs.declared.session.Session.{Session};
 ghost use Rattle.session_script.specs.FirstPath.Valid.{IsValid};
 ghost use Rattle.replay_core.specs.Play.{meaning_of};
-ghost use Rattle.host_main.specs.World.{vault_at, sink_at};
+ghost use Rattle.lv_outside.specs.World.{vault_at, sink_at};
 ghost use Rattle.host_main.specs.Render.{rendering_of, AnswersRender, Explains, IsDone, IsCaused, IsRendered, IsUnrendered, LeavesSink};
 ghost use Rattle.host_main.specs.Files.{AreApart};
 

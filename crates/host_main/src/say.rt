@@ -1,6 +1,6 @@
 ghost use Rattle.std.specs.Prelude.{◌≡◌, ◌++◌, ◌≤◌, ℕ, List};
 ghost use Rattle.host_main.specs.Status.{line_of, usage_line, rule_end, limit_front};
-ghost use Rattle.host_main.specs.World.{sink_at, IsSaid};
+ghost use Rattle.lv_outside.specs.World.{sink_at, IsSaid};
 
 use crate::refusal::{Refusal, Target};
 use itoa::Buffer;

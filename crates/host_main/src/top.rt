@@ -2,7 +2,7 @@ ghost use Rattle.std.specs.Prelude.{◌≡◌, ℕ, List};
 ghost use Rattle.host_main.specs.Status.{usage_line};
 ghost use Rattle.host_main.specs.Words.{IsRender};
 ghost use Rattle.replay_core.specs.Play.{meaning_of};
-ghost use Rattle.host_main.specs.World.{vault_at, sink_at, LeavesFiles, IsSaid};
+ghost use Rattle.lv_outside.specs.World.{vault_at, sink_at, LeavesFiles, IsSaid};
 ghost use Rattle.host_main.specs.Render.{AnswersRender};
 
 use crate::command::{Command, command_of};

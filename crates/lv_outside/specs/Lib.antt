@@ -4,3 +4,4 @@ pub mod Files
 pub mod Taken
 pub mod MemoryVault
 pub mod MemorySink
+pub mod World

@@ -1,4 +1,4 @@
-use Rattle.host_main.specs.World.{sink_at}
+use Rattle.lv_outside.specs.World.{sink_at}
 use Rattle.host_main.proofs.Answers.{explained}
 use Rattle.host_main.proofs.rendering.answer.Goals as goal
 

@@ -1,0 +1,4 @@
+pub mod Inside
+pub mod Loading
+pub mod Once
+pub mod Plugins

@@ -1,0 +1,13 @@
+//! What a session's files say: so far the triples of a bundle.
+#![tactic(auto)]
+
+mod bundle_files;
+mod fault;
+mod file_name;
+mod named_files;
+
+pub use bundle_files::{MOST_FILE_BYTES, bundle, stays_inside};
+pub use fault::LoadFault;
+
+#[cfg(test)]
+mod tests;
