@@ -71,11 +71,11 @@ explained code path name v v' k k' k'' refusal answer is why left said later =
     inr (refusal, is, caused_later code path name v v' k k' k'' refusal why later, said_after path name k k' k'' refusal left later said)
 
 -- a file can't be there and not be there
-nowhere : (file : Option (List ℕ)) (bytes : List ℕ) → file ≡ None → file ≡ Some bytes → ⊥
+pub nowhere : (file : Option (List ℕ)) (bytes : List ℕ) → file ≡ None → file ≡ Some bytes → ⊥
 nowhere file bytes here there = let same : ◌≡◌ {A = Option (List ℕ)} None (Some bytes) = sym here ∙ there in cc
 
 -- one file has one text
-same_text : (file : Option (List ℕ)) (a b : List ℕ) → file ≡ Some a → file ≡ Some b → a ≡ b
+pub same_text : (file : Option (List ℕ)) (a b : List ℕ) → file ≡ Some a → file ≡ Some b → a ≡ b
 same_text file a b one other = let same : ◌≡◌ {A = Option (List ℕ)} (Some a) (Some b) = sym one ∙ other in cc
 
 -- What an answer says of a known file: nothing where a read failed or memory was refused.

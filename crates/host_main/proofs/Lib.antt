@@ -4,3 +4,8 @@ pub mod Answers
 pub mod Mapped
 pub mod Lawful
 pub mod NoSession
+pub mod Loading
+pub mod Checks
+pub mod Said
+pub mod Folder
+pub mod Plugins

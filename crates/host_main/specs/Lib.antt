@@ -1,6 +1,10 @@
 pub mod Status
 pub mod Files
 pub mod Render
+pub mod CheckStatus
+pub mod Listing
+pub mod PluginRefusals
+pub mod Check
 pub mod Words
 pub mod Stock
 pub mod StockSound

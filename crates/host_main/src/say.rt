@@ -98,16 +98,25 @@ fn limit_front(which: Limit) -> &'static str
     }
 }
 
-fn put_line<K: Sink>(out: &mut K, front: &str, middle: &str, end: &str)
+pub(crate) fn put_line<K: Sink>(out: &mut K, front: &str, middle: &str, end: &str)
     ensures said { IsSaid (sink_at K.tells K.taken K.faults out.old) (sink_at K.tells K.taken K.faults out.new)
         (front.now ++ (middle.now ++ end.now)) }
     ensures later { K.faults out.old ≤ K.faults out.new }
 {
-    if out.put(front.as_bytes()) == Put::Failed {
+    put_pieces(out, front.as_bytes(), middle.as_bytes(), end.as_bytes());
+}
+
+// Puts three pieces, up to the first that fails.
+pub(crate) fn put_pieces<K: Sink>(out: &mut K, front: &[u8], middle: &[u8], end: &[u8])
+    ensures said { IsSaid (sink_at K.tells K.taken K.faults out.old) (sink_at K.tells K.taken K.faults out.new)
+        (front.now ++ (middle.now ++ end.now)) }
+    ensures later { K.faults out.old ≤ K.faults out.new }
+{
+    if out.put(front) == Put::Failed {
         return;
     }
-    if out.put(middle.as_bytes()) == Put::Failed {
+    if out.put(middle) == Put::Failed {
         return;
     }
-    let _ = out.put(end.as_bytes());
+    let _ = out.put(end);
 }

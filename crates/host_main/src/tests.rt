@@ -138,8 +138,10 @@ const USAGE: &str =
     "lv2fx: 1 usage: check BUNDLE | render SESSION OUT | play SESSION OUT | replay SESSION RECORD OUT | gen NUMBER OUT\n";
 
 // Commands that are refused: their words, the session at `s`, the status and the line.
-const REFUSED: [(&[&str], &str, u8, &str); 7] = [
+const REFUSED: [(&[&str], &str, u8, &str); 9] = [
     (&[], CONST_TO_AMP, 1, USAGE),
+    (&["check"], CONST_TO_AMP, 1, USAGE),
+    (&["check", "s", "o"], CONST_TO_AMP, 1, USAGE),
     (&["render", "s"], CONST_TO_AMP, 1, USAGE),
     (
         &["render", "there", "o"],

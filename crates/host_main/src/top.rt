@@ -1,10 +1,12 @@
 ghost use Rattle.std.specs.Prelude.{◌≡◌, ℕ, List};
 ghost use Rattle.host_main.specs.Status.{usage_line};
-ghost use Rattle.host_main.specs.Words.{IsRender};
+ghost use Rattle.host_main.specs.Words.{IsCheck, IsRender, IsOfNoForm};
 ghost use Rattle.replay_core.specs.Play.{meaning_of};
 ghost use Rattle.lv_outside.specs.World.{vault_at, sink_at, LeavesFiles, IsSaid};
+ghost use Rattle.host_main.specs.Check.{folder_of, AnswersCheck};
 ghost use Rattle.host_main.specs.Render.{AnswersRender};
 
+use crate::checking::run_check;
 use crate::command::{Command, command_of};
 use crate::refusal::Refusal;
 use crate::rendering::run_render;
@@ -16,8 +18,9 @@ use std::alloc::Global;
 
 /// Does what the words say, and answers the status that the program ends with.
 ///
-/// The words are `render SESSION OUT`, so far: see [`run_render`]. Words of any other form are answered by 1, with the line
-/// that lists the commands. The gate is passed by running threads alone, and no command starts any yet.
+/// The words are `check BUNDLE` or `render SESSION OUT`, so far: see [`run_check`] and
+/// [`run_render`]. Words of any other form are answered by 1, with the line that lists the
+/// commands. The gate is passed by running threads alone, and no command starts any yet.
 pub fn host_main<V: Vault, K: Sink, C: Codes + Sync, G: Gate + Sync>(
     alloc: Global,
     words: &[Text],
@@ -26,21 +29,26 @@ pub fn host_main<V: Vault, K: Sink, C: Codes + Sync, G: Gate + Sync>(
     codes: &C,
     gate: &G,
 ) -> u8
+    ensures check { (bundle : List ℕ) → IsCheck words.now bundle → AnswersCheck (folder_of bundle)
+        (vault_at V.tells V.file V.faults V.absences V.longs vault.old)
+        (vault_at V.tells V.file V.faults V.absences V.longs vault.new)
+        (sink_at K.tells K.taken K.faults out.old) (sink_at K.tells K.taken K.faults out.new) result }
     ensures render { (session name : List ℕ) → IsRender words.now session name → AnswersRender
         (meaning_of C.make_of C.Front.activate_of C.Front.run_of C.Front.deactivate_of)
         session name
         (vault_at V.tells V.file V.faults V.absences V.longs vault.old)
         (vault_at V.tells V.file V.faults V.absences V.longs vault.new)
         (sink_at K.tells K.taken K.faults out.old) (sink_at K.tells K.taken K.faults out.new) result }
-    ensures usage { ((session name : List ℕ) → IsRender words.now session name → ⊥) → result ≡ 1 }
-    ensures usage_said { ((session name : List ℕ) → IsRender words.now session name → ⊥) → IsSaid
+    ensures usage { IsOfNoForm words.now → result ≡ 1 }
+    ensures usage_said { IsOfNoForm words.now → IsSaid
         (sink_at K.tells K.taken K.faults out.old) (sink_at K.tells K.taken K.faults out.new) usage_line }
-    ensures usage_files { ((session name : List ℕ) → IsRender words.now session name → ⊥) → LeavesFiles
+    ensures usage_files { IsOfNoForm words.now → LeavesFiles
         (vault_at V.tells V.file V.faults V.absences V.longs vault.old)
         (vault_at V.tells V.file V.faults V.absences V.longs vault.new) }
 {
     let _gate = gate;
     match command_of(words) {
+        Some(Command::Check { bundle }) => run_check(alloc, bundle, vault, out),
         Some(Command::Render { session, name }) => {
             run_render(alloc, session, name, vault, out, codes)
         }
