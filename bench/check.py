@@ -4,13 +4,14 @@
 Run it anywhere, after the program was built: bench/check.py
 `bundle` is a manifest of 12 MB with 2^18 distinct triples, written as bundles are. The others are legal documents that are bad
 for a careless reader, and one that no reader takes: a million open brackets. Each time is the whole process by the wall clock,
-the best of three runs; memory is the process's greatest resident size. `serdi` writes N-Triples, `sordi` reads into a store and
-writes it; what they print goes to /dev/null, as what `check` prints does.
+the best of three runs; memory is the process's greatest resident size. On the bundle, `serdi` writes N-Triples, `sordi` reads
+into a store and writes it, and `triple_count` reads into a store; what they print goes to /dev/null, as what `check` prints does.
 """
 import os, shutil, subprocess, sys, tempfile, time
 
 HERE = os.path.dirname(os.path.abspath(__file__))
 PROGRAM = os.path.join(HERE, '..', 'crates', 'lv2fx', 'out', 'lv2fx')
+READER = os.path.join(HERE, '..', 'crates', 'triple_count', 'out', 'triple_count')
 TRIPLES = 1 << 18
 SIZE = 12_000_000
 HEAD = ('@prefix lv2: <http://lv2plug.in/ns/lv2core#> .\n@prefix doap: <http://usefulinc.com/ns/doap#> .\n'
@@ -58,6 +59,12 @@ def line(name, who, size, words):
     print(f'{name:9} {who:6} {size / 1e6:6.1f} {seconds:9.3f} {size / seconds / 1e6:9.1f} {memory:8.0f} {status:7}')
 
 
+def others(path):
+    """Who else reads a document, where it is there, and by which words."""
+    known = [('reader', [READER, path, '1'])] if os.path.exists(READER) else []
+    return known + [(who, [who, '-o', 'ntriples', path]) for who in ('serdi', 'sordi') if shutil.which(who)]
+
+
 def main():
     if not os.path.exists(PROGRAM):
         sys.exit('bench: the program is not built; `./lv2fx` builds it')
@@ -69,9 +76,9 @@ def main():
                 file.write(text())
             size = os.path.getsize(path)
             line(name, 'lv2fx', size, [PROGRAM, 'check', folder])
-            for other, words in {'serdi': ['-o', 'ntriples'], 'sordi': ['-o', 'ntriples']}.items():
-                if shutil.which(other):
-                    line(name, other, size, [other, *words, path])
+            if name == 'bundle':
+                for who, words in others(path):
+                    line(name, who, size, words)
 
 
 main()
