@@ -86,6 +86,9 @@ fn texts(rt: HostRuntime) -> Result<(), Fail> {
         Ok(_) => assert!(rt; false, "not UTF-8"),
     }
 
+    let taken = Text::from_string(String::from_str(alloc, "caf\u{e9}")?)?;
+    assert_eq!(rt; taken, text);
+
     let mut bytes = Bytes::new(alloc);
     bytes.push_all(b"ab")?;
     bytes.push_all(b"c")?;

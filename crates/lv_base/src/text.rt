@@ -1,5 +1,6 @@
 ghost use Rattle.std.specs.Prelude.{◌≡◌, List, IsUtf8, IfOk, IfErr, nat_eq, Some};
 ghost use Rattle.std.specs.Ordering.{nat_cmp};
+ghost use Rattle.std.specs.String.{string_bytes};
 ghost use Rattle.std.specs.Hash as fed;
 ghost use Rattle.std.specs.Cmp;
 ghost use Rattle.std.specs.Cmp.Lexicographic.{pointwise, slice_cmp, nat_list_eq_equiv, nat_list_cmp_total, texts_ties, texts_po};
@@ -59,6 +60,14 @@ impl Text {
         ensures { IfOk result (λ made. made ≡ text.now) }
     {
         let shared = ArcStr::from_str(alloc, text)?;
+        Ok(Text { shared })
+    }
+
+    /// Takes over the characters of a string. It copies none of them.
+    pub fn from_string(text: String) -> Result<Self, NoMemory>
+        ensures { IfOk result (λ made. made ≡ string_bytes text) }
+    {
+        let shared = ArcStr::from_string(text)?;
         Ok(Text { shared })
     }
 
