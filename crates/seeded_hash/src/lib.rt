@@ -1,36 +1,38 @@
 //! Hashes that a seed decides, for tables of texts that strangers write.
 #![tactic(auto)]
 
-ghost use Rattle.std.specs.Prelude.{◌≡◌, fold};
-ghost use Rattle.std.specs.Hash as fed;
-ghost use Rattle.std.specs.Hash.DefaultHasher as sip;
+ghost use Rattle.std.specs.Prelude.{◌≡◌, ◌%◌, ◌/◌, ◌^◌};
+ghost use Rattle.seeded_hash.specs.SipHash as sip;
 
-use std::hash::{BuildHasher, DefaultHasher, Hasher};
+mod hasher;
 
-/// Hashes by SipHash-1-3 (Aumasson, Bernstein 2012), after a seed that is hashed first. Whoever doesn't know a random seed can't
-/// choose values whose hashes agree.
+pub use hasher::SeededHasher;
+use std::hash::BuildHasher;
+
+/// Hashes by SipHash-1-3, whose key is a seed of 128 bits. Whoever doesn't know a random seed can't choose values whose hashes
+/// agree.
 #[derive(Clone, Copy)]
 pub struct SeededHash {
-    seeded: DefaultHasher,
+    seeded: SeededHasher,
 }
 
 impl SeededHash {
-    /// The hashes of a seed.
+    /// The hashes of a seed: its lower 64 bits are the key's first word.
     pub fn new(seed: u128) -> Self
-        ensures { result.seeded ≡ fold sip.write sip.initial (fed.u128 seed) }
+        ensures { result.seeded ≡ sip.keyed (seed % 2 ^ 64) (seed / 2 ^ 64) }
     {
-        let mut seeded = DefaultHasher::new();
-        seeded.write_u128(seed);
-        SeededHash { seeded }
+        SeededHash {
+            seeded: SeededHasher::keyed((seed % (1 << 64)) as u64, (seed >> 64) as u64),
+        }
     }
 }
 
 impl BuildHasher for SeededHash {
-    type Hasher = DefaultHasher;
+    type Hasher = SeededHasher;
 
     ghost build_hasher = { λ hashing. hashing.seeded };
 
-    fn build_hasher(&self) -> DefaultHasher {
+    fn build_hasher(&self) -> SeededHasher {
         self.seeded
     }
 }

@@ -19,7 +19,7 @@ pub const MOST_URIDS: usize = 1 << 20;
 /// The URIs that have numbers, from 1 on in the order in which they were mapped. Contracts see the list of them, each of which
 /// stands there once.
 ///
-/// URIs are looked up by hashes: SipHash-1-3 of a seed of 128 bits, then of the bytes. The numbers don't depend on this seed, the
+/// URIs are looked up by hashes: SipHash-1-3, whose key is a seed of 128 bits. The numbers don't depend on this seed, the
 /// time does. Whoever knows it can write URIs whose hashes agree, and each is compared with all that agree with it, so that n of
 /// them take time in n². A program that maps strangers' URIs takes a random seed, by `with_seed`.
 #[derive(Drop)]

@@ -1,0 +1,7 @@
+use Rattle.std.proofs.Common.{ap, sym, ◌∙◌, arith, rules}
+use Rattle.seeded_hash.specs.SipHash.{compress}
+use Rattle.seeded_hash.proofs.Words.{absorb-short}
+use Rattle.seeded_hash.proofs.hasher.SeededHasherHasher.write_u8.Goals as goal
+
+pub returns : goal.returns
+returns c = c.compress.ensures ∙ ap (compress c.args.self.now) (omega arith) ∙ sym (absorb-short c.args.self.now _ (search rules))
