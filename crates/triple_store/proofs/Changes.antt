@@ -57,11 +57,9 @@ pub written : {S : Type 0} (m n : IndexMap Term Ends S) (s : Term) (o : Option (
 written m n s o x new value is writes = sets m n s (Some new) ((writes.3 (ap is_some (sym value ∙ ap option_copied_mut is))).0)
 
 -- what is kept after a new key
-pub inserted : {S : Type 0} (m same_m n : IndexMap Term Ends S) (s key : Term) (new : Ends) → same_m ≡ m → key ≡ s
-    → ((q : Term) → get term_eq.it n q ≡ cond (term_eq.it key q) (Some new) (get term_eq.it same_m q)) → Sets (get same_term m) s (Some new) (get same_term n)
-inserted m same_m n s key new same same_key updates =
-    subst (λ t. Sets (get same_term m) t (Some new) (get same_term n)) same_key
-    (subst (λ k. Sets (get same_term k) key (Some new) (get same_term n)) same (sets same_m n key (Some new) updates))
+pub inserted : {S : Type 0} (m n : IndexMap Term Ends S) (s key : Term) (new : Ends) → key ≡ s
+    → ((q : Term) → get term_eq.it n q ≡ cond (term_eq.it key q) (Some new) (get term_eq.it m q)) → Sets (get same_term m) s (Some new) (get same_term n)
+inserted m n s key new same_key updates = subst (λ t. Sets (get same_term m) t (Some new) (get same_term n)) same_key (sets m n key (Some new) updates)
 
 -- what is kept after a removal of what was lent
 pub removed : {S : Type 0} (m k n : IndexMap Term Ends S) (s : Term) (o : Option (MutBor Ends)) (x : MutBor Ends) (new : Ends)
@@ -71,5 +69,5 @@ removed m k n s o x new value is writes updates =
     twice (get same_term m) (get same_term k) (get same_term n) s (Some new) None (written m k s o x new value is writes) (sets k n s None updates)
 
 -- the same entries keep the same for each subject
-pub same_entries : {S : Type 0} (m k n : IndexMap Term Ends S) (q : Term) → k ≡ m → n.entries ≡ k.entries → get same_term n q ≡ get same_term m q
-same_entries m k n q same e = rw e (ap (λ l. get same_term l q) same)
+pub same_entries : {S : Type 0} (m n : IndexMap Term Ends S) (q : Term) → n.entries ≡ m.entries → get same_term n q ≡ get same_term m q
+same_entries m n q e = rw e refl

@@ -1,5 +1,6 @@
 pub mod SameTerm
 pub mod Changes
+pub mod Places
 pub mod Passing
 pub mod Rows
 pub mod Chained

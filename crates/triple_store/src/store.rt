@@ -17,7 +17,7 @@ type Rows = IndexSet<Triple, SeededHash>;
 
 /// A set of triples in the order in which they were added. Contracts see it as the list of its rows.
 ///
-/// Rows and subjects are looked up by hashes: SipHash-1-3 of a seed of 128 bits, then of the value. The answers don't depend on
+/// Rows and subjects are looked up by hashes: SipHash-1-3, whose key is a seed of 128 bits. The answers don't depend on
 /// this seed, the time does. Whoever knows it can write triples whose hashes agree, and each is compared with all that agree with
 /// it, so that n of them take time in n². A program that reads strangers' files takes a random seed, by `with_seed`.
 #[derive(Drop)]

@@ -1,7 +1,9 @@
-ghost use Rattle.std.specs.Prelude.{◌≡◌, ◌≤◌, ◌-◌, [], take, length, OnOk, OnErr};
+ghost use Rattle.std.specs.Prelude.{◌≡◌, ◌≤◌, ◌-◌, [], take, length, is_some, slice_get, Some, IfSome, OnOk, OnErr};
+ghost use Rattle.indexmap.specs.IndexMap.{keys};
 ghost use Rattle.triple_store.specs.Index.{AreIndexed, ends_of};
 ghost use Rattle.triple_store.specs.declared.fault.TheConstants.{MOST_ROWS};
 
+use crate::term::same;
 use crate::{Term, Triple};
 use indexmap::IndexMap;
 use lv_base::NoMemory;
@@ -23,6 +25,8 @@ pub struct Subjects {
     pub(crate) next: Vec<u32>,
     // At each row the place of the one before it of its subject, where one precedes it.
     pub(crate) previous: Vec<u32>,
+    // Where the subject that came last stands among them.
+    latest: usize,
 }
 
 impl Subjects {
@@ -33,6 +37,18 @@ impl Subjects {
             ends: IndexMap::with_hasher(alloc, hashing),
             next: Vec::new(alloc),
             previous: Vec::new(alloc),
+            latest: 0,
+        }
+    }
+
+    // Where a subject stands among them. Rows mostly come subject by subject, so the latest one is tried before any hash.
+    fn place_of(&self, subject: &Term) -> Option<usize>
+        ensures known { is_some result ≡ is_some (ends_of self.now subject.now) }
+        ensures place { IfSome result (λ at. slice_get (keys self.now.ends) at ≡ Some subject.now) }
+    {
+        match self.ends.get_index(self.latest) {
+            Some((term, _)) if same(term, subject) => Some(self.latest),
+            _ => self.ends.get_index_of(subject),
         }
     }
 
@@ -49,7 +65,9 @@ impl Subjects {
         let place = front.len() as u32;
         self.next.reserve(1)?;
         self.previous.reserve(1)?;
-        if let Some(ends) = self.ends.get_mut(&row.s) {
+        if let Some(at) = self.place_of(&row.s) {
+            self.latest = at;
+            let (_, ends) = self.ends.pair_mut(at);
             let last = ends.last;
             ends.last = place;
             self.next[last as usize] = place;
@@ -61,7 +79,8 @@ impl Subjects {
             first: place,
             last: place,
         };
-        self.ends.insert(row.s.clone()?, ends)?;
+        let (at, _) = self.ends.insert_full(row.s.clone()?, ends)?;
+        self.latest = at;
         self.next.push_reserved(place);
         self.previous.push_reserved(place);
         Ok(())

@@ -1,10 +1,14 @@
 ghost use Rattle.std.specs.Prelude.{◌≡◌, ◌≤◌, ◌^◌};
+ghost use Rattle.std.proofs.Common.{rules};
+ghost use Rattle.std.specs.Cmp.Rules.{hashing};
+ghost use Rattle.triple_store.specs.Hashed.{fed_of};
 ghost use Rattle.triple_store.specs.Triples.{same_term, blanks_of_term, blanks_of_triple};
 
 use lv_base::Text;
+use std::hash::{Hash, Hasher};
 
 /// A term of RDF 1.1. Two are equal exactly where they are of one kind and have the same characters (sections 3.2 to 3.4).
-#[derive(Clone, Debug, PartialEq, Eq, Hash, Drop)]
+#[derive(Clone, Debug, PartialEq, Eq, Drop)]
 pub enum Term {
     /// An IRI in full.
     Iri(Text),
@@ -16,6 +20,36 @@ pub enum Term {
         datatype: Text,
         lang: Text,
     },
+}
+
+/// The kind is hashed as one byte, where a derived hash takes eight.
+impl Hash for Term {
+    ghost hash_input = { fed_of };
+
+    ghost respects_eq = { Prim.search (hashing, rules) };
+
+    fn hash<H: Hasher>(&self, state: &mut H) {
+        match self {
+            Term::Iri(iri) => {
+                0u8.hash(state);
+                iri.hash(state);
+            }
+            Term::Blank(number) => {
+                1u8.hash(state);
+                number.hash(state);
+            }
+            Term::Literal {
+                text,
+                datatype,
+                lang,
+            } => {
+                2u8.hash(state);
+                text.hash(state);
+                datatype.hash(state);
+                lang.hash(state);
+            }
+        }
+    }
 }
 
 /// A triple of RDF 1.1: subject, predicate, object.
