@@ -23,7 +23,7 @@ pub fn expand(alloc: Global, namespace: &Text, name: &str) -> Result<Text, NoMem
     let mut iri = String::with_capacity(alloc, namespace.len().saturating_add(local.len()))?;
     iri.push_str(namespace)?;
     push_local(&mut iri, local)?;
-    Text::from_str(alloc, &iri)
+    Text::from_string(iri)
 }
 
 /// A language tag without its `@`.

@@ -1,8 +1,8 @@
-ghost use Rattle.std.specs.Prelude.{◌≡◌, IfOk};
+ghost use Rattle.std.specs.Prelude.{◌≡◌, IfOk, IfSome};
 ghost use Rattle.turtle_grammar.specs.Value.{quotes, reference_of, string_of};
 ghost use Rattle.turtle_value.specs.Quotings.{quoting_of};
 
-use crate::unescape::content_text;
+use crate::unescape::{content_text, plain_content};
 use lv_base::{NoMemory, Text};
 use std::alloc::Global;
 
@@ -31,6 +31,13 @@ pub fn reference_text(alloc: Global, token: &str) -> Result<Text, NoMemory>
     ensures { IfOk result (λ text. text ≡ reference_of token.now) }
 {
     content_text(alloc, token, 1)
+}
+
+/// The same, borrowed, where no escape stands there.
+pub fn plain_reference(token: &str) -> Option<&str>
+    ensures { IfSome result (λ text. text.now ≡ reference_of token.now) }
+{
+    plain_content(token, 1)
 }
 
 // How many quotes stand at each end.

@@ -1,4 +1,4 @@
-use crate::{Quotes, expand, prefix_text, reference_text, string_text, tag_text};
+use crate::{Quotes, expand, plain_reference, prefix_text, reference_text, string_text, tag_text};
 use lv_base::Text;
 use std::test::Fail;
 
@@ -28,6 +28,8 @@ fn says_what_strings_say(rt: HostRuntime) -> Result<(), Fail> {
 fn names(rt: HostRuntime) -> Result<(), Fail> {
     let reference = reference_text(rt.alloc(), "<a\\u0041>")?;
     assert_eq!(rt; reference.as_str(), "aA");
+    assert_eq!(rt; plain_reference("<a>"), Some("a"));
+    assert_eq!(rt; plain_reference("<a\\u0041>"), None);
     let namespace = Text::from_str(rt.alloc(), "http://e.x/d/q#")?;
     let name = "p:b%20c\\,d:e";
     assert_eq!(rt; prefix_text(name), "p");

@@ -1,4 +1,4 @@
-ghost use Rattle.std.specs.Prelude.{◌≡◌, ◌≤◌, ℕ, [], ◌++◌, IfOk, OnOk, encode_utf8_all, take, length, ◌-◌};
+ghost use Rattle.std.specs.Prelude.{◌≡◌, ◌≤◌, ℕ, [], ◌++◌, IfOk, IfSome, OnOk, encode_utf8_all, take, length, ◌-◌};
 ghost use Rattle.std.specs.Str.{chars};
 ghost use Rattle.std.specs.String.{string_bytes};
 ghost use Rattle.turtle_grammar.specs.Value.{content, inside, unescaped, character, letter_value};
@@ -22,14 +22,25 @@ pub(crate) enum Escape {
 pub(crate) fn content_text(alloc: Global, token: &str, quotes: usize) -> Result<Text, NoMemory>
     ensures { IfOk result (λ text. text ≡ content quotes token.now) }
 {
-    let inner = within(token, quotes);
-    match inner.find('\\') {
-        None => Text::from_str(alloc, inner),
-        Some(_) => {
+    match plain_content(token, quotes) {
+        Some(plain) => Text::from_str(alloc, plain),
+        None => {
+            let inner = within(token, quotes);
             let mut text = String::with_capacity(alloc, inner.len())?;
             push_unescaped(&mut text, inner)?;
             Text::from_str(alloc, &text)
         }
+    }
+}
+
+// The same where no escape stands there.
+pub(crate) fn plain_content(token: &str, quotes: usize) -> Option<&str>
+    ensures { IfSome result (λ text. text.now ≡ content quotes token.now) }
+{
+    let inner = within(token, quotes);
+    match inner.find('\\') {
+        None => Some(inner),
+        Some(_) => None,
     }
 }
 
