@@ -1,5 +1,5 @@
 -- What the store's answer says of the row.
-use Rattle.std.proofs.Common.{◌≡◌, ℕ, ◌<◌, ◌≤◌, Bool, true, false, cond, ◌&&◌, ◌||◌, List, [], ◌∷◌, ◌++◌, Contains, length, take, ◌+◌, Result, Ok, Err, Some, refl, ap, sym, subst, ◌∙◌, true≢false, arith}
+use Rattle.std.proofs.Common.{◌≡◌, ℕ, ◌<◌, ◌≤◌, Bool, true, false, cond, List, [], ◌∷◌, ◌++◌, Contains, length, take, ◌+◌, Result, Ok, Err, refl, ap, sym, subst, ◌∙◌, true≢false, arith}
 use Rattle.std.specs.Prelude.{nat_le}
 use Rattle.std.specs.List.{list_any}
 use Rattle.std.proofs.lemmas.Bool.{false_from_ne_true, le-leb, lt-leb}
@@ -9,7 +9,6 @@ use Rattle.triple_store.specs.Triples.{Adds}
 use Rattle.triple_store.specs.declared.fault.TheConstants.{MOST_ROWS}
 use Rattle.triple_store.specs.declared.term.Term.{Term}
 use Rattle.triple_store.specs.declared.term.Triple.{Triple}
-use Rattle.triple_store.specs.contracts.term.TriplePartialEq.TheImpl.{eq-value as triple_eq}
 use Rattle.turtle_document.specs.Meaning.{Fault, State, add, is_row}
 use Rattle.turtle_document.specs.Meaning.Fault.{full_store}
 

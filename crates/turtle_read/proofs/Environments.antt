@@ -1,12 +1,12 @@
 -- What changes of the maps do to an environment.
-use Rattle.std.proofs.Common.{◌≡◌, ℕ, suc, Bool, cond, List, [], Option, None, Some, refl, ap, sym, ◌∙◌, subst}
+use Rattle.std.proofs.Common.{◌≡◌, ℕ, cond, List, [], Option, None, Some, ap, sym, ◌∙◌}
 use Rattle.std.proofs.Math.Path.{fun_ext}
 use Rattle.std.specs.Map.{lookup}
 use Rattle.std.specs.Str.{bytes_eq}
 use Rattle.indexmap.specs.IndexMap.{IndexMap, get}
 use Rattle.triple_store.specs.declared.term.Triple.{Triple}
 use Rattle.triple_store.specs.declared.term.Term.TheVariants.{Blank}
-use Rattle.turtle_document.specs.Meaning.{State, bound, numbered, labelled, labelled_as, read, beginning}
+use Rattle.turtle_document.specs.Meaning.{State, bound, numbered, labelled, labelled_as, read}
 
 -- a map without entries has nothing at any name
 pub nothing_bound : {V S : Type 0} (m : IndexMap (List ℕ) V S) → m.entries ≡ [] → get bytes_eq m ≡ (λ name. None)

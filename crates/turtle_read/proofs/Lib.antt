@@ -7,3 +7,4 @@ pub mod Stops
 pub mod Moves
 pub mod Taken
 pub mod Told
+pub mod Recents

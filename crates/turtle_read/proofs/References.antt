@@ -1,5 +1,5 @@
 -- Which references are resolved.
-use Rattle.std.proofs.Common.{◌↔◌, Option, None, Some, is_some, IsSome, ◌≡◌, ℕ, ◌<◌, ◌≤◌, ◌+◌, min, Bool, true, false, cond, not, ◌||◌, List, [], ◌∷◌, length, Result, Ok, Err, refl, ap, sym, subst, ◌∙◌, true≢false, arith, IsUtf8}
+use Rattle.std.proofs.Common.{◌↔◌, is_some, IsSome, ◌≡◌, ℕ, ◌<◌, ◌+◌, Bool, true, false, cond, not, ◌||◌, List, [], ◌∷◌, length, Result, Ok, Err, refl, ap, sym, subst, ◌∙◌, true≢false, arith, IsUtf8}
 use Rattle.std.specs.List.{list_any, position_or_len}
 use Rattle.std.specs.Str.Lossy.{utf8_valid_len}
 use Rattle.std.proofs.lemmas.Bool.{false_from_ne_true}

@@ -3,9 +3,9 @@ use Rattle.std.proofs.Common.{◌≡◌, ℕ, refl, ap, sym, subst, ◌∙◌, R
 use Rattle.turtle_document.specs.Meaning.{Fault, State, ◌>>=◌, name_of}
 use Rattle.turtle_document.specs.Meaning.Fault.{no_prefix, bad_iri, too_deep, full_store}
 use Rattle.turtle_document.specs.Machine.{Config, Move, on, started_name}
-use Rattle.turtle_document.specs.Machine.Move.{to, stuck, fails}
+use Rattle.turtle_document.specs.Machine.Move.{fails}
 use Rattle.turtle_grammar.specs.Tree.{Name}
-use Rattle.turtle_read.specs.Faults.{Refuses, Gives, Stops, Follows, Leads}
+use Rattle.turtle_read.specs.Faults.{Refuses, Gives, Stops, Follows}
 use Rattle.turtle_read.specs.Names.{iri_of}
 use Rattle.turtle_read.specs.declared.fault.TurtleFault.{TurtleFault}
 use Rattle.turtle_read.specs.declared.fault.TurtleFault.TheVariants.{Lex, Syntax, NoPrefix, BadIri, Depth, StoreFull, NoMemory}

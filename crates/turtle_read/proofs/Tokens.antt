@@ -1,14 +1,14 @@
 -- Where the next token of a text lies.
-use Rattle.std.proofs.Common.{◌≡◌, ℕ, zero, suc, ◌+◌, ◌-◌, ◌<◌, ◌≤◌, Bool, true, false, ◌&&◌, List, [], ◌∷◌, ◌++◌, length, take, drop, IsUtf8, Option, None, Some, refl, ap, sym, subst, ◌∙◌, true≢false, arith, length-append}
+use Rattle.std.proofs.Common.{◌≡◌, ℕ, zero, suc, ◌+◌, ◌-◌, ◌<◌, ◌≤◌, true, List, [], ◌∷◌, ◌++◌, length, take, drop, IsUtf8, Option, None, Some, refl, ap, sym, subst, ◌∙◌, true≢false, arith, length-append}
 use Rattle.std.specs.Prelude.{encode_utf8_all, MatchOption}
-use Rattle.std.specs.Str.{chars, IsCharBoundary}
+use Rattle.std.specs.Str.{chars}
 use Rattle.std.proofs.lemmas.Bool.{and_parts}
 use Rattle.std.proofs.lemmas.List.{length-drop, take-append-drop, drop-drop, drop_at}
-use Rattle.std.proofs.lemmas.Str.{encodes-append, encodes-chars, scalars-chars, chars-encodes, length-le-encodes, IsCharBoundary-from_drop}
+use Rattle.std.proofs.lemmas.Str.{encodes-append, encodes-chars, scalars-chars, chars-encodes, length-le-encodes}
 use lib.Utf8.{scalar, scalars}
-use Rattle.turtle_grammar.specs.Pattern.{Pattern, Matches, is_empty, matches}
+use Rattle.turtle_grammar.specs.Pattern.{Matches}
 use Rattle.turtle_grammar.specs.Terminals.{pattern}
-use Rattle.turtle_grammar.specs.Tokens.{Found, Finds, FindsOpened, FindsPlain, opened, bytes_of, IsNext}
+use Rattle.turtle_grammar.specs.Tokens.{Finds, FindsOpened, FindsPlain, opened, bytes_of, IsNext}
 use Rattle.turtle_grammar.specs.Tokens.Found.{token}
 use Rattle.turtle_grammar.specs.Tokens.Answer.{next}
 use Rattle.turtle_grammar.specs.declared.token.Token.{Token}

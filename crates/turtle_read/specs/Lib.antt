@@ -6,3 +6,4 @@ pub mod Readers
 pub mod Vocabularies
 pub mod Moves
 pub mod Tokens
+pub mod Recents

@@ -1,5 +1,5 @@
 -- What a token names.
-use Rattle.std.specs.Prelude.{◌≡◌, ℕ, List, Option, None, Some, Result, Ok, Err}
+use Rattle.std.specs.Prelude.{ℕ, List, Option, None, Some, Result, Ok}
 use Rattle.turtle_document.specs.Meaning.{Fault, State, ◌>>=◌, name_of}
 use Rattle.turtle_grammar.specs.Tree.{Name}
 

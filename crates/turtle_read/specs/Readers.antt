@@ -1,5 +1,5 @@
 -- Where a reader stands.
-use Rattle.std.specs.Prelude.{ℕ, Option, List}
+use Rattle.std.specs.Prelude.{List}
 use Rattle.turtle_document.specs.Machine.{Config, config}
 use Rattle.turtle_document.specs.Meaning.{State}
 use Rattle.triple_store.specs.declared.term.Triple.{Triple}

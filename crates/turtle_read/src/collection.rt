@@ -103,13 +103,16 @@ impl Reader {
     }
 
     // An object may start with a token that begins one.
-    fn may_start(&self, token: Lexeme<'_>) -> Result<(), TurtleFault>
-        ensures { Gives (λ _. inside self.now) result (machine.started_by token.entry.kind (leaf_of token.entry) (length self.now.outer) (inside self.now)) }
+    fn may_start(&mut self, token: Lexeme<'_>) -> Result<(), TurtleFault>
+        ensures value { Gives (λ _. inside self.old) result (machine.started_by token.entry.kind (leaf_of token.entry) (length self.old.outer) (inside self.old)) }
+        ensures state { inside self.new ≡ inside self.old }
+        ensures same { config_of self.new ≡ config_of self.old }
+        ensures kept { kept self.new ≡ kept self.old }
     {
         match token.kind {
             TokenKind::OpenSquare | TokenKind::OpenRound => self.may_open(token.at),
             _ => {
-                self.environment.iri_of(token)?;
+                self.environment.iri_of(token, true)?;
                 Ok(())
             }
         }

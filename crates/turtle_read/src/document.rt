@@ -13,6 +13,8 @@ use crate::TurtleFault;
 use crate::environment::Environment;
 use crate::lexeme::Lexeme;
 use crate::reader::Reader;
+use crate::recent::Recent;
+use crate::shared::SharedTexts;
 use crate::vocabulary::Vocabulary;
 use lv_base::Text;
 use std::alloc::Global;
@@ -22,8 +24,9 @@ use turtle_document::Expected;
 use turtle_grammar::Token;
 use turtle_lex::{LexFault, Lexer};
 
-/// Reads a Turtle 1.1 document, whose relative IRIs are seen from `base`, and adds its triples to the store, each once, in the order
-/// in which their objects end. It answers how many of them are new. Blank nodes are numbered on from the store's.
+/// Reads a Turtle 1.1 document, whose relative IRIs are seen from `base`, an IRI with a scheme, and adds its triples to the store,
+/// each once, in the order in which their objects end. It answers how many of them are new. Blank nodes are numbered on from those
+/// of the store.
 ///
 /// Bytes that aren't UTF-8 are `NotUtf8`, whatever stands before them. Else the fault is the first one on the way from the first
 /// token to the last. After a fault the store has the rows that it had before.
@@ -44,12 +47,14 @@ fn read_text(alloc: Global, base: &Text, text: &str, store: &mut Store) -> Resul
     ensures { ReadsDocument (beginning base.now store.old) text.now result store.new }
 {
     let words = Vocabulary::new(alloc)?;
+    let shorts = SharedTexts::new(alloc)?;
+    let recent = Recent::new(alloc)?;
     let base = base.clone()?;
     let before = store.count();
     let hashing = store.hashing();
     let taken = mem::replace(store, Store::new(alloc));
-    let environment = Environment::new(alloc, base, taken, hashing);
-    let mut reader = Reader::new(alloc, words, environment);
+    let environment = Environment::new(alloc, base, taken, hashing, recent);
+    let mut reader = Reader::new(alloc, words, shorts, environment);
     match take_tokens(&mut reader, text) {
         Ok(()) => {
             *store = reader.into_store();
@@ -80,6 +85,7 @@ fn take_tokens(reader: &mut Reader, text: &str) -> Result<(), TurtleFault>
     }
 }
 
+#[inline(always)]
 // Takes a token of a text.
 fn take_token(reader: &mut Reader, text: &str, token: Token) -> Result<(), TurtleFault>
     requires { IsTokenOf text.now token }

@@ -1,10 +1,14 @@
 ghost use Rattle.std.specs.Prelude.{◌≡◌, ◌≤◌, ◌^◌, ◌↔◌, IsTrue, true, is_some, length};
 ghost use Rattle.iri_resolve.specs.Components.{scheme_of};
+ghost use Rattle.indexmap.specs.IndexMap.{get};
+ghost use Rattle.std.specs.Str.{bytes_eq};
 ghost use Rattle.triple_store.specs.Triples.{blanks_of_triple, blanks_of_term};
+ghost use Rattle.turtle_read.specs.Recents.{AreKnown};
 
 use crate::TurtleFault;
 use crate::lexeme::Lexeme;
 use crate::name::Name;
+use crate::recent::Recent;
 use indexmap::IndexMap;
 use iri_resolve::{IriFault, resolve};
 use lv_base::{NoMemory, Text};
@@ -27,7 +31,10 @@ pub struct Environment {
     store: Store,
     // the rows that were there before the document's
     before: usize,
+    // what names stand for under this base and these prefixes
+    recent: Recent,
     ghost absolute: { is_some (scheme_of base) ≡ true },
+    ghost known: { AreKnown base (get bytes_eq prefixes) recent },
     ghost held: { before ≤ length store },
 }
 
@@ -52,13 +59,16 @@ impl Environment {
     ghost use Rattle.turtle_document.specs.Meaning as meaning;
     ghost use Rattle.turtle_read.specs.Moves as moves;
     ghost use Rattle.turtle_document.specs.Meaning.{numbered, beginning};
+    ghost use Rattle.turtle_grammar.specs.Value.{reference_of};
     ghost use Rattle.turtle_read.specs.Faults.{leaf_of, Gives};
+    ghost use Rattle.turtle_read.specs.Recents.{HoldNothing};
     ghost use Rattle.turtle_read.specs.States.{state_of, with_prefix, kept_of};
 
-    #[tactic(auto, using(crate::proofs::Adds::all_kept), unfolding(crate::specs::States::kept_of))]
+    #[tactic(auto, using(crate::proofs::Adds::all_kept, crate::proofs::Recents::none_known), unfolding(crate::specs::States::kept_of))]
     /// The environment of a document's beginning.
-    pub fn new(alloc: Global, base: Text, store: Store, hashing: SeededHash) -> Self
-        requires { is_some (scheme_of base) ≡ true }
+    pub fn new(alloc: Global, base: Text, store: Store, hashing: SeededHash, recent: Recent) -> Self
+        requires absolute { is_some (scheme_of base) ≡ true }
+        requires fresh { HoldNothing recent }
         ensures state { state_of result ≡ beginning base store }
         ensures kept { kept_of result ≡ store }
     {
@@ -72,6 +82,7 @@ impl Environment {
             blanks,
             store,
             before,
+            recent,
         }
     }
 
@@ -128,23 +139,26 @@ impl Environment {
         Ok(Term::Blank(number))
     }
 
-    #[tactic(auto, unfolding(crate::specs::States::kept_of))]
+    #[tactic(auto, using(crate::proofs::Recents::none_known), unfolding(crate::specs::States::kept_of))]
     /// A prefix stands for a namespace from here on.
     pub fn bind(&mut self, prefix: Text, namespace: Text) -> Result<(), NoMemory>
         ensures value { OnOk result (state_of self.new ≡ with_prefix prefix namespace (state_of self.old)) }
         ensures kept { kept_of self.new ≡ kept_of self.old }
     {
+        self.recent.clear();
         self.prefixes.insert(prefix, namespace)?;
         Ok(())
     }
 
-    #[tactic(auto, unfolding(crate::specs::States::kept_of, crate::specs::Moves::based_on, crate::specs::Moves::absolute))]
+    #[tactic(auto, using(crate::proofs::Recents::none_known), unfolding(crate::specs::States::kept_of, crate::specs::Moves::based_on, crate::specs::Moves::absolute))]
     /// The IRI of a reference is the base from here on.
     pub fn set_base(&mut self, token: Lexeme<'_>) -> Result<(), TurtleFault>
         ensures value { Gives (λ _. state_of self.new) result (moves.based_on (leaf_of token.entry) (state_of self.old)) }
         ensures kept { kept_of self.new ≡ kept_of self.old }
     {
-        self.base = self.absolute(token)?;
+        let base = self.absolute(token)?;
+        self.recent.clear();
+        self.base = base;
         Ok(())
     }
 
@@ -153,7 +167,21 @@ impl Environment {
         ensures value { Gives (λ iri. iri) result (moves.absolute self.now.base (leaf_of token.entry)) }
         ensures scheme { IfOk result (λ iri. is_some (scheme_of iri) ≡ true) }
     {
-        let reference = turtle_value::reference_text(self.alloc, token.text)?;
+        match turtle_value::plain_reference(token.text) {
+            Some(reference) => self.seen(token, reference),
+            None => {
+                let reference = turtle_value::reference_text(self.alloc, token.text)?;
+                self.seen(token, reference.as_str())
+            }
+        }
+    }
+
+    // The IRI of a reference that a token writes.
+    fn seen(&self, token: Lexeme<'_>, reference: &str) -> Result<Text, TurtleFault>
+        requires { reference.now ≡ reference_of token.text.now }
+        ensures value { Gives (λ iri. iri) result (moves.absolute self.now.base (leaf_of token.entry)) }
+        ensures scheme { IfOk result (λ iri. is_some (scheme_of iri) ≡ true) }
+    {
         match resolve(self.alloc, &self.base, reference.as_bytes()) {
             Ok(iri) => Ok(iri),
             Err(IriFault::BadChar(_)) => Err(TurtleFault::BadIri(token.at)),
@@ -174,9 +202,31 @@ impl Environment {
         }
     }
 
+    #[inline(always)]
+    #[tactic(auto, unfolding(crate::specs::States::kept_of))]
+    /// The IRI that a token names, `None` where it is no name. It is kept for the next time, if such names come `again`.
+    pub fn iri_of(&mut self, token: Lexeme<'_>, again: bool) -> Result<Option<Text>, TurtleFault>
+        ensures value { Gives (λ iri. iri) result (moves.named token.entry.kind (leaf_of token.entry) (state_of self.old)) }
+        ensures state { state_of self.new ≡ state_of self.old }
+        ensures kept { kept_of self.new ≡ kept_of self.old }
+    {
+        if let Some(iri) = self.recent.find(token) {
+            return Ok(Some(iri.clone()?));
+        }
+        let Some(iri) = self.named(token)? else {
+            return Ok(None);
+        };
+        if !again {
+            return Ok(Some(iri));
+        }
+        self.recent.keep(self.alloc, token, iri.clone()?)?;
+        Ok(Some(iri))
+    }
+
+    #[inline(never)]
     #[tactic(auto, unfolding(crate::specs::Moves::named, crate::specs::Moves::absolute, crate::specs::Moves::expanded))]
-    /// The IRI that a token names, `None` where it is no name.
-    pub fn iri_of(&self, token: Lexeme<'_>) -> Result<Option<Text>, TurtleFault>
+    // The same, of a name that isn't kept.
+    fn named(&self, token: Lexeme<'_>) -> Result<Option<Text>, TurtleFault>
         ensures { Gives (λ iri. iri) result (moves.named token.entry.kind (leaf_of token.entry) (state_of self.now)) }
     {
         match token.kind {

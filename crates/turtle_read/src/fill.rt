@@ -15,6 +15,7 @@ impl Reader {
     ghost use Rattle.turtle_read.specs.Readers.{config_of, inside, kept};
 
     // Fills a hole with a term whose last token stands at `at`.
+    #[inline(always)]
     pub(crate) fn fill(&mut self, hole: Hole, at: usize, term: Term) -> Result<(), TurtleFault>
         ensures moves { Leads result (config_of self.new) (inside self.new) (filled hole at term self.old.outer (inside self.old)) }
         ensures kept { kept self.new ≡ kept self.old }
@@ -33,6 +34,7 @@ impl Reader {
         }
     }
 
+    #[inline(always)]
     fn add_object(
         &mut self,
         subject: Term,

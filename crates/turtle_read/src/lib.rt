@@ -13,6 +13,9 @@ mod lexeme;
 mod name;
 mod object;
 mod reader;
+mod recent;
+mod shared;
+mod slot;
 mod string;
 #[cfg(test)]
 mod tests;

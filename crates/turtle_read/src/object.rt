@@ -2,7 +2,6 @@ use crate::TurtleFault;
 use crate::kinds::quotes_of;
 use crate::lexeme::Lexeme;
 use crate::reader::Reader;
-use lv_base::Text;
 use triple_store::Term;
 use turtle_document::{Chain, Expected, Hole};
 use turtle_grammar::TokenKind;
@@ -14,6 +13,7 @@ impl Reader {
     ghost use Rattle.turtle_read.specs.Readers.{config_of, inside, kept};
 
     // The first token of an object that fills a hole.
+    #[inline(always)]
     pub(crate) fn begin_object(&mut self, token: Lexeme<'_>, hole: Hole) -> Result<(), TurtleFault>
         ensures moves { Follows token.entry.at result (config_of self.new) (inside self.new) (machine.begin_object token.entry.kind hole (leaf_of token.entry) self.old.outer (inside self.old)) }
         ensures kept { kept self.new ≡ kept self.old }
@@ -33,6 +33,7 @@ impl Reader {
     }
 
     // The first token of an object that is no string.
+    #[inline(always)]
     fn begin_short(&mut self, token: Lexeme<'_>, hole: Hole) -> Result<(), TurtleFault>
         ensures moves { Follows token.entry.at result (config_of self.new) (inside self.new) (machine.begin_short token.entry.kind hole (leaf_of token.entry) self.old.outer (inside self.old)) }
         ensures kept { kept self.new ≡ kept self.old }
@@ -40,7 +41,7 @@ impl Reader {
         match self.words.datatype_of(token.kind) {
             Some(datatype) => {
                 let datatype = datatype.clone()?;
-                let text = Text::from_str(self.alloc, token.text)?;
+                let text = self.shorts.text(self.alloc, token.text)?;
                 let term = self.words.typed(text, datatype)?;
                 self.fill(hole, token.at, term)
             }
@@ -49,6 +50,7 @@ impl Reader {
     }
 
     // The first token of an IRI or a blank node.
+    #[inline(always)]
     pub(crate) fn begin_resource(
         &mut self,
         token: Lexeme<'_>,
@@ -57,7 +59,9 @@ impl Reader {
         ensures moves { Follows token.entry.at result (config_of self.new) (inside self.new) (machine.begin_resource token.entry.kind hole (leaf_of token.entry) self.old.outer (inside self.old)) }
         ensures kept { kept self.new ≡ kept self.old }
     {
-        match self.environment.iri_of(token)? {
+        // A statement's subject is mostly a new one.
+        let again = !matches!(hole, Hole::Subject);
+        match self.environment.iri_of(token, again)? {
             Some(iri) => self.fill(hole, token.at, Term::Iri(iri)),
             None => self.begin_node(token, hole),
         }

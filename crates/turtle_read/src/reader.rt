@@ -4,6 +4,7 @@ use crate::TurtleFault;
 use crate::environment::Environment;
 use crate::holes::Holes;
 use crate::lexeme::Lexeme;
+use crate::shared::SharedTexts;
 use crate::vocabulary::Vocabulary;
 use std::alloc::Global;
 use std::mem;
@@ -16,6 +17,8 @@ use turtle_grammar::TokenKind;
 pub struct Reader {
     pub(crate) alloc: Global,
     pub(crate) words: Vocabulary,
+    // numbers and truth values
+    pub(crate) shorts: SharedTexts,
     pub(crate) environment: Environment,
     pub(crate) next: Expected,
     pub(crate) outer: Holes,
@@ -29,7 +32,12 @@ impl Reader {
     ghost use Rattle.turtle_read.specs.Readers.{config_of, inside, kept};
 
     /// A reader before a document's first token.
-    pub fn new(alloc: Global, words: Vocabulary, environment: Environment) -> Self
+    pub fn new(
+        alloc: Global,
+        words: Vocabulary,
+        shorts: SharedTexts,
+        environment: Environment,
+    ) -> Self
         ensures next { result.next ≡ expect.Statement }
         ensures outer { result.outer ≡ [] }
         ensures environment { result.environment ≡ environment }
@@ -37,6 +45,7 @@ impl Reader {
         Reader {
             alloc,
             words,
+            shorts,
             environment,
             next: Expected::Statement,
             outer: Holes::new(alloc),
@@ -58,6 +67,7 @@ impl Reader {
     }
 
     // What has to come next.
+    #[inline(always)]
     pub(crate) fn expect(&mut self, next: Expected)
         ensures { self.new ≡ record self.old { next = next } }
     {
@@ -65,6 +75,7 @@ impl Reader {
     }
 
     // What has to come next. A statement stands in its place until the token is judged.
+    #[inline(always)]
     pub(crate) fn take_next(&mut self) -> Expected
         ensures next { result ≡ self.old.next }
         ensures rest { self.new ≡ record self.old { next = expect.Statement } }
@@ -72,6 +83,7 @@ impl Reader {
         mem::replace(&mut self.next, Expected::Statement)
     }
 
+    #[inline(always)]
     /// Reads one token more.
     pub fn step(&mut self, token: Lexeme<'_>) -> Result<(), TurtleFault>
         ensures moves { Follows token.entry.at result (config_of self.new) (inside self.new) (machine.move (config_of self.old) token.entry.kind (leaf_of token.entry) (inside self.old)) }
@@ -84,6 +96,7 @@ impl Reader {
     }
 
     // A token where no string waits for what follows it.
+    #[inline(always)]
     pub(crate) fn plain_step(
         &mut self,
         token: Lexeme<'_>,

@@ -89,7 +89,7 @@ impl Reader {
         ensures moves { Follows token.entry.at result (config_of self.new) (inside self.new) (machine.typed_by token.entry.kind (leaf_of token.entry) text hole self.old.outer (inside self.old)) }
         ensures kept { kept self.new ≡ kept self.old }
     {
-        match self.environment.iri_of(token)? {
+        match self.environment.iri_of(token, true)? {
             Some(datatype) => {
                 let term = self.words.typed(text, datatype)?;
                 self.fill(hole, token.at, term)

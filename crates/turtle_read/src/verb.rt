@@ -12,11 +12,12 @@ impl Reader {
     ghost use Rattle.turtle_read.specs.Readers.{config_of, inside, kept};
 
     // A verb.
+    #[inline(always)]
     pub(crate) fn at_verb(&mut self, token: Lexeme<'_>, subject: Term) -> Result<(), TurtleFault>
         ensures moves { Follows token.entry.at result (config_of self.new) (inside self.new) (machine.at_verb token.entry.kind (leaf_of token.entry) subject self.old.outer (inside self.old)) }
         ensures kept { kept self.new ≡ kept self.old }
     {
-        match self.environment.iri_of(token)? {
+        match self.environment.iri_of(token, true)? {
             Some(iri) => {
                 self.expect(Expected::Object {
                     subject,
@@ -69,6 +70,7 @@ impl Reader {
     }
 
     // What may follow an object.
+    #[inline(always)]
     pub(crate) fn after_object(
         &mut self,
         token: Lexeme<'_>,
@@ -92,6 +94,7 @@ impl Reader {
     }
 
     // What may follow a `;`.
+    #[inline(always)]
     pub(crate) fn after_semicolon(
         &mut self,
         token: Lexeme<'_>,

@@ -31,7 +31,7 @@ fn joined(alloc: Global, namespace: &str, local: &str) -> Result<Text, NoMemory>
 {
     let mut iri = String::from_str(alloc, namespace)?;
     iri.push_str(local)?;
-    Text::from_str(alloc, iri.as_str())
+    Text::from_string(iri)
 }
 
 #[tactic(auto, unfolding(turtle_document::specs::Vocabulary::rdf))]

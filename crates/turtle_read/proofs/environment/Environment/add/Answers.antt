@@ -1,5 +1,5 @@
-use Rattle.std.proofs.Common.{sym, ap, ◌∙◌, true≢false, subst, refl, length}
-use Rattle.std.specs.Prelude.{Result, Err}
+use Rattle.std.proofs.Common.{sym, ◌∙◌, true≢false}
+use Rattle.std.specs.Prelude.{Err}
 use Rattle.turtle_read.specs.States.{state_of}
 use Rattle.turtle_read.specs.Moves.{add}
 use Rattle.turtle_read.proofs.Adds.{added, refused, newly, full_from, full_at, room_from}

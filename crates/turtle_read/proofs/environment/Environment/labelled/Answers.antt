@@ -1,7 +1,5 @@
-use Rattle.std.proofs.Common.{◌∙◌, ap, sym, refl, Option, None, Some, ◌≡◌}
+use Rattle.std.proofs.Common.{sym}
 use Rattle.turtle_read.specs.States.{state_of}
-use Rattle.triple_store.specs.declared.term.Term.TheVariants.{Blank}
-use Rattle.turtle_document.specs.Meaning.{read}
 use Rattle.turtle_read.proofs.Environments.{first_use_as}
 use Rattle.turtle_read.proofs.environment.Environment.labelled.Goals as goal
 

@@ -1,19 +1,14 @@
 use Rattle.turtle_read.specs.States.{state_of}
-use Rattle.std.proofs.Common.{refl, ap, sym, ◌∙◌, Some, None, Ok, Err}
-use Rattle.triple_store.specs.declared.term.Term.TheVariants as terms
-use Rattle.triple_store.proofs.SameTerm.{copy_of_term}
-use Rattle.turtle_grammar.specs.declared.token.TokenKind.TheVariants as kinds
-use Rattle.turtle_document.specs.Meaning.{may_open}
-use Rattle.turtle_document.specs.Machine.{Move, config, on, listed}
-use Rattle.turtle_document.specs.Machine.Move.{to, stuck, fails}
+use Rattle.std.proofs.Common.{refl, ap, sym, ◌∙◌}
+use Rattle.turtle_document.specs.Machine.{config}
+use Rattle.turtle_document.specs.Machine.Move.{to}
 use Rattle.turtle_document.specs.declared.expected.Chain.TheVariants as chains
 use Rattle.turtle_document.specs.declared.expected.Expected.TheVariants as expect
-use Rattle.turtle_document.specs.declared.expected.Hole.TheVariants as holes
 use Rattle.turtle_read.specs.Faults.{leaf_of}
 use Rattle.turtle_read.specs.Moves as moves
 use Rattle.turtle_read.specs.Readers.{config_of, inside}
 use Rattle.turtle_read.proofs.Moves as laws
-use Rattle.turtle_read.proofs.Stops.{stops_from, follows_as, stops_on, residual}
+use Rattle.turtle_read.proofs.Stops.{stops_from, follows_as, residual}
 use Rattle.turtle_read.proofs.reader.Reader.begin_node.Goals as goal
 
 pub returns-in_ok-term-in-BlankLabel-clause-moves : goal.returns-in_ok-term-in-BlankLabel-clause-moves

@@ -1,12 +1,8 @@
-use Rattle.std.proofs.Common.{refl, ap, sym, ◌∙◌}
-use Rattle.turtle_document.specs.Machine.{Move, config, on}
-use Rattle.turtle_document.specs.Machine.Move.{to}
-use Rattle.turtle_document.specs.declared.expected.Chain.TheVariants as chains
-use Rattle.turtle_document.specs.declared.expected.Expected.TheVariants as expect
-use Rattle.turtle_read.specs.Moves.{filled, closed}
-use Rattle.turtle_read.specs.Readers.{config_of, inside}
-use Rattle.turtle_read.proofs.Moves.{filled_subject, filled_listed, filled_object, filled_item, closed_none, closed_some}
-use Rattle.turtle_read.proofs.Stops.{stops_from, follows_as, stops_on}
+use Rattle.std.proofs.Common.{refl, ap, ◌∙◌}
+use Rattle.turtle_read.specs.Moves.{closed}
+use Rattle.turtle_read.specs.Readers.{inside}
+use Rattle.turtle_read.proofs.Moves.{closed_none, closed_some}
+use Rattle.turtle_read.proofs.Stops.{follows_as}
 use Rattle.turtle_read.proofs.reader.Reader.close.Goals as goal
 
 pub returns-in-None-clause-moves : goal.returns-in-None-clause-moves

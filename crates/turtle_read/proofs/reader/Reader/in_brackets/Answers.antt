@@ -1,18 +1,10 @@
-use Rattle.std.proofs.Common.{refl, ap, sym, ◌∙◌, Some, None, Ok, Err}
+use Rattle.std.proofs.Common.{ap, sym, ◌∙◌}
 use Rattle.triple_store.specs.declared.term.Term.TheVariants as terms
-use Rattle.triple_store.proofs.SameTerm.{copy_of_term}
-use Rattle.turtle_grammar.specs.declared.token.TokenKind.TheVariants as kinds
-use Rattle.turtle_document.specs.Meaning.{may_open}
-use Rattle.turtle_document.specs.Machine.{Move, config, on, listed}
-use Rattle.turtle_document.specs.Machine.Move.{to, stuck, fails}
-use Rattle.turtle_document.specs.declared.expected.Chain.TheVariants as chains
-use Rattle.turtle_document.specs.declared.expected.Expected.TheVariants as expect
-use Rattle.turtle_document.specs.declared.expected.Hole.TheVariants as holes
 use Rattle.turtle_read.specs.Faults.{leaf_of}
 use Rattle.turtle_read.specs.Moves as moves
-use Rattle.turtle_read.specs.Readers.{config_of, inside}
+use Rattle.turtle_read.specs.Readers.{inside}
 use Rattle.turtle_read.proofs.Moves as laws
-use Rattle.turtle_read.proofs.Stops.{stops_from, follows_as, stops_on, residual}
+use Rattle.turtle_read.proofs.Stops.{follows_as}
 use Rattle.turtle_read.proofs.reader.Reader.in_brackets.Goals as goal
 
 pub returns-in-CloseSquare-clause-moves : goal.returns-in-CloseSquare-clause-moves
