@@ -6,7 +6,7 @@ use anyhow::{Context, Result, bail};
 use lv_base::Text;
 use std::alloc::Global;
 use std::rt::{Env, Files};
-use std::{env, fs};
+use std::{env, fs, mem};
 use triple_store::Store;
 use turtle_read::read;
 
@@ -21,20 +21,23 @@ fn run<R: Env + Files + AllocGlobal>(rt: &R) -> Result<u32> {
     let path = words.next().context("no file is named")?;
     let times = words.next().context("no number of times")?;
     let bytes = fs::read(rt, path.as_str())?;
-    let mut triples = 0;
+    let mut store = Store::new(rt.alloc());
     for _ in 0..times.as_str().parse::<u32>()? {
-        triples = count(rt.alloc(), &bytes)?;
+        store = filled(rt.alloc(), &bytes)?;
     }
+    let triples = store.count();
+    // Its memory goes back with the process: to take it apart is no part of reading.
+    mem::forget(store);
     Ok(triples)
 }
 
-fn count(alloc: Global, bytes: &[u8]) -> Result<u32> {
+fn filled(alloc: Global, bytes: &[u8]) -> Result<Store> {
     let Ok(base) = Text::from_str(alloc, "file:///bundle/0/manifest.ttl") else {
         bail!("no memory");
     };
     let mut store = Store::new(alloc);
     match read(alloc, &base, bytes, &mut store) {
-        Ok(triples) => Ok(triples),
+        Ok(_) => Ok(store),
         Err(fault) => bail!("{fault:?}"),
     }
 }
