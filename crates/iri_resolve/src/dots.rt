@@ -1,4 +1,4 @@
-ghost use Rattle.std.specs.Prelude.{◌≡◌, ◌<◌, ◌≤◌, ◌++◌, [], ◌∷◌, ◌-◌, not, length, take, drop, vec_len, OnOk, IfOk};
+ghost use Rattle.std.specs.Prelude.{◌≡◌, ◌<◌, ◌≤◌, ◌++◌, [], ◌∷◌, ◌-◌, not, length, take, drop, vec_len, OnOk, IfOk, IsTrue};
 ghost use Rattle.std.specs.List.{position_or_len, suffix_len};
 ghost use Rattle.iri_resolve.specs.Dots as spec;
 ghost use Rattle.iri_resolve.specs.Dots.{is_slash, segment_len, without_last, without_dots};
@@ -17,6 +17,21 @@ pub(crate) fn push_without_dots(output: &mut Vec<u8>, path: &[u8]) -> Result<(),
         input = turn(input, output, floor)?;
     }
     Ok(())
+}
+
+/// Whether no segment of a path begins with a dot, so that none is a dot segment.
+pub(crate) fn is_undotted(path: &[u8]) -> bool
+    ensures { IsTrue result → without_dots path.now ≡ path.now }
+{
+    let mut from = 0;
+    while let Some(found) = memchr(b'.', &path[from..]) {
+        let at = from + found;
+        if at == 0 || path[at - 1] == b'/' {
+            return false;
+        }
+        from = at + 1;
+    }
+    true
 }
 
 /// One turn: what is left of the input. The output proper begins at `floor`.

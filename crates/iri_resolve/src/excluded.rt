@@ -1,5 +1,4 @@
-ghost use Rattle.std.specs.Prelude.{◌≡◌, ◌<◌, ◌≤◌, length, min, IsUtf8, IfNone, MatchOption, position};
-ghost use Rattle.std.specs.Str.Lossy.{utf8_valid_len};
+ghost use Rattle.std.specs.Prelude.{◌≡◌, ◌<◌, ◌≤◌, length, min, IsUtf8, IfNone, IfOk, MatchOption, MatchResult, position};
 ghost use Rattle.std.specs.List.{position_or_len};
 ghost use Rattle.iri_resolve.specs.Excluded as spec;
 ghost use Rattle.iri_resolve.specs.Excluded.{first_bad, IsFirstBad};
@@ -25,11 +24,23 @@ pub fn bad_char(text: &[u8]) -> Option<usize>
     ensures place { MatchOption result (first_bad text.now ≡ length text.now) (IsFirstBad text.now) }
     ensures utf8 { IfNone result (IsUtf8 text.now) }
 {
-    let first = first_excluded(text).min(valid_len(text));
-    if first < text.len() {
-        Some(first)
-    } else {
-        None
+    match iri_text(text) {
+        Ok(_) => None,
+        Err(at) => Some(at),
+    }
+}
+
+/// The characters of a text that has no bad one, or the place of the first (see `bad_char`).
+pub(crate) fn iri_text(text: &[u8]) -> Result<&str, usize>
+    ensures place { MatchResult result (λ _. first_bad text.now ≡ length text.now) (IsFirstBad text.now) }
+    ensures utf8 { IfOk result (λ _. IsUtf8 text.now) }
+    ensures same { IfOk result (λ whole. whole.now ≡ text.now) }
+{
+    let first = first_excluded(text);
+    match simdutf8::compat::from_utf8(text) {
+        Ok(whole) if first == text.len() => Ok(whole),
+        Ok(_) => Err(first),
+        Err(fault) => Err(first.min(fault.valid_up_to())),
     }
 }
 
@@ -44,14 +55,4 @@ fn excluded_at(text: &[u8]) -> Option<usize>
     ensures { result ≡ position spec.is_excluded text.now }
 {
     text.iter().position(|byte| is_excluded(*byte))
-}
-
-fn valid_len(text: &[u8]) -> usize
-    ensures value { result ≡ utf8_valid_len text.now }
-    ensures whole { result ≡ length text.now → IsUtf8 text.now }
-{
-    match simdutf8::compat::from_utf8(text) {
-        Ok(_) => text.len(),
-        Err(fault) => fault.valid_up_to(),
-    }
 }

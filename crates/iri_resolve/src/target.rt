@@ -1,11 +1,11 @@
-ghost use Rattle.std.specs.Prelude.{◌≡◌, ◌++◌, ◌+◌, ◌≤◌, ◌↔◌, ℕ, codes, length, take, OnOk, IfOk, IsNone, IsSome};
+ghost use Rattle.std.specs.Prelude.{◌≡◌, ◌++◌, ◌+◌, ◌≤◌, ◌↔◌, ℕ, List, codes, length, take, OnOk, IfOk, IsNone, IsSome, IsTrue};
 ghost use Rattle.iri_resolve.specs.Components.{scheme_of, parts_of, part_at, components, AreWithin, IsWithin};
 ghost use Rattle.iri_resolve.specs.Dots.{without_dots};
 ghost use Rattle.iri_resolve.specs.Target.{directory, merged, marked, scheme_text, transformed, resolved};
 ghost use Rattle.iri_resolve.specs.Excluded.{IsFirstBad};
 
-use crate::dots::push_without_dots;
-use crate::excluded::bad_char;
+use crate::dots::{is_undotted, push_without_dots};
+use crate::excluded::iri_text;
 use crate::parts::{Parts, has_scheme, split};
 use lv_base::{Text, TextFault};
 use memchr::memrchr;
@@ -36,10 +36,15 @@ pub fn resolve(alloc: Global, base: &Text, reference: &[u8]) -> Result<Text, Iri
     if !has_scheme(base) {
         return Err(IriFault::NotAbsoluteBase);
     }
-    if let Some(at) = bad_char(reference) {
-        return Err(IriFault::BadChar(at));
+    let text = match iri_text(reference) {
+        Ok(text) => text,
+        Err(at) => return Err(IriFault::BadChar(at)),
+    };
+    let to = split(reference);
+    if names_itself(reference, to) {
+        return Text::from_str(alloc, text).map_err(|_| IriFault::NoMemory);
     }
-    let Ok(target) = compose(alloc, base, reference) else {
+    let Ok(target) = compose(alloc, base, reference, to) else {
         return Err(IriFault::NoMemory);
     };
     match Text::from_bytes(alloc, &target) {
@@ -49,11 +54,21 @@ pub fn resolve(alloc: Global, base: &Text, reference: &[u8]) -> Result<Text, Iri
     }
 }
 
+/// Whether a reference is seen to name itself, whatever the base: it has a scheme, and no segment of its path begins with a dot.
+fn names_itself(reference: &[u8], to: Parts) -> bool
+    requires parts { to ≡ parts_of reference.now }
+    requires within { AreWithin reference.now to }
+    ensures { IsTrue result → (base : List ℕ) → resolved base reference.now ≡ reference.now }
+{
+    to.scheme.is_some() && is_undotted(path_in(reference, to))
+}
+
 /// The text of the target. The branches are those of section 5.2.2, and each writes its components as section 5.3 has them.
-fn compose(alloc: Global, base: &[u8], reference: &[u8]) -> Result<Vec<u8>, AllocError>
+fn compose(alloc: Global, base: &[u8], reference: &[u8], to: Parts) -> Result<Vec<u8>, AllocError>
+    requires parts { to ≡ parts_of reference.now }
+    requires within { AreWithin reference.now to }
     ensures { IfOk result (λ target. target.items ≡ resolved base.now reference.now) }
 {
-    let to = split(reference);
     let most = base.len().saturating_add(reference.len()).saturating_add(1);
     let mut target = Vec::with_capacity(alloc, most)?;
     if to.scheme.is_some() {
