@@ -1,5 +1,6 @@
-ghost use Rattle.std.specs.Prelude.{◌≡◌, IfOk, IfSome};
-ghost use Rattle.turtle_grammar.specs.Value.{quotes, reference_of, string_of};
+ghost use Rattle.std.specs.Prelude.{◌≡◌, Contains, IfNone, IfOk, IfSome};
+ghost use Rattle.std.specs.Str.{chars};
+ghost use Rattle.turtle_grammar.specs.Value.{inside, quotes, reference_of, string_of};
 ghost use Rattle.turtle_value.specs.Quotings.{quoting_of};
 
 use crate::unescape::{content_text, plain_content};
@@ -33,9 +34,10 @@ pub fn reference_text(alloc: Global, token: &str) -> Result<Text, NoMemory>
     content_text(alloc, token, 1)
 }
 
-/// The same, borrowed, where no escape stands there.
+/// The same, borrowed, where no escape stands there; `None` where a backslash stands between the angle brackets.
 pub fn plain_reference(token: &str) -> Option<&str>
-    ensures { IfSome result (λ text. text.now ≡ reference_of token.now) }
+    ensures plain { IfSome result (λ text. text.now ≡ reference_of token.now) }
+    ensures escaped { IfNone result (Contains (inside 1 (chars token.now)) 92) }
 {
     plain_content(token, 1)
 }

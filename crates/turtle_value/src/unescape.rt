@@ -1,4 +1,4 @@
-ghost use Rattle.std.specs.Prelude.{◌≡◌, ◌≤◌, ℕ, [], ◌++◌, IfOk, IfSome, OnOk, encode_utf8_all, take, length, ◌-◌};
+ghost use Rattle.std.specs.Prelude.{◌≡◌, ◌≤◌, ℕ, [], ◌++◌, Contains, IfNone, IfOk, IfSome, OnOk, encode_utf8_all, take, length, ◌-◌};
 ghost use Rattle.std.specs.Str.{chars};
 ghost use Rattle.std.specs.String.{string_bytes};
 ghost use Rattle.turtle_grammar.specs.Value.{content, inside, unescaped, character, letter_value};
@@ -33,9 +33,11 @@ pub(crate) fn content_text(alloc: Global, token: &str, quotes: usize) -> Result<
     }
 }
 
-// The same where no escape stands there.
+#[tactic(auto, using(crate::proofs::Plain::plain_of))]
+// The same, borrowed, where no escape stands there; `None` where a backslash stands there.
 pub(crate) fn plain_content(token: &str, quotes: usize) -> Option<&str>
-    ensures { IfSome result (λ text. text.now ≡ content quotes token.now) }
+    ensures plain { IfSome result (λ text. text.now ≡ content quotes token.now) }
+    ensures escaped { IfNone result (Contains (inside quotes (chars token.now)) 92) }
 {
     let inner = within(token, quotes);
     match inner.find('\\') {

@@ -1,7 +1,7 @@
-use Rattle.std.proofs.Common.{encode_utf8_all, sym, ap, ◌∙◌}
-use Rattle.turtle_grammar.specs.Value.{unescaped}
-use Rattle.turtle_value.proofs.Plain.{plain}
+use Rattle.std.proofs.Common.{Contains, subst}
+use Rattle.turtle_value.proofs.Plain.{found}
 use Rattle.turtle_value.proofs.unescape.plain_content.Goals as goal
 
-pub returns-in-None : goal.returns-in-None
-returns-in-None c = sym (plain c.within-inner.result.now c.within-inner.utf8 c.in-None.ensures.cases) ∙ ap (λ x. encode_utf8_all (unescaped x)) c.within-inner.ensures
+pub returns-in-Some-clause-escaped : goal.returns-in-Some-clause-escaped
+returns-in-Some-clause-escaped c =
+    subst (λ x. Contains x 92) c.within-inner.ensures (found c.within-inner.result.now c.in-Some.field-0 c.within-inner.utf8 c.in-Some.ensures.cases)
