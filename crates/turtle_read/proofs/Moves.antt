@@ -25,8 +25,8 @@ use Rattle.turtle_value.specs.Quotings.{quoting_of}
 use Rattle.turtle_value.specs.declared.quoted.Quotes.{Quotes}
 use Rattle.turtle_read.specs.Faults.{Stops}
 use Rattle.turtle_read.specs.States.{with_prefix}
-use Rattle.turtle_read.specs.declared.fault.TurtleFault.{TurtleFault}
-use Rattle.turtle_read.specs.declared.fault.TurtleFault.TheVariants.{Lex, Syntax, NoPrefix, BadIri, Depth, StoreFull, NoMemory}
+use Rattle.turtle_read.specs.declared.token_fault.TokenFault.{TokenFault}
+use Rattle.turtle_read.specs.declared.token_fault.TokenFault.TheVariants.{Syntax, NoPrefix, BadIri, Depth, StoreFull, NoMemory}
 use Rattle.turtle_read.proofs.Stops.{at_name, at_none, at_fault, started_at, not_started}
 use Rattle.turtle_read.specs.Moves.{at_a, end_statement, absolute, based_on, add, named, filled, closed, begin_node, begin_resource, begin_short, begin_object, started_by, linked, ended, begin_item, in_collection, at_verb, at_end, after_object, after_semicolon, after_listed, in_brackets, at_directive, at_statement, at_prefix, at_namespace, at_base, at_dot, typed_by, plain_move, follows, after_string, move}
 
@@ -387,8 +387,7 @@ string_off kind leaf text at hole outer st n m e =
     string_other kind leaf text at hole outer st n m ∙ ap (λ b. cond b (go_on (filled hole at (terms.Literal text xsd_string []) outer st) kind leaf) stuck) e
 
 -- a fault of a string's hole is one of the whole
-pub stops_going : (at : ℕ) (fault : TurtleFault) (m : Move) (kind : TokenKind) (leaf : Leaf) → Stops at fault m → Stops at fault (go_on m kind leaf)
-stops_going at (Lex fault) m kind leaf h = absurd h
+pub stops_going : (at : ℕ) (fault : TokenFault) (m : Move) (kind : TokenKind) (leaf : Leaf) → Stops at fault m → Stops at fault (go_on m kind leaf)
 stops_going at (Syntax place) m kind leaf h = (h.0, ap (λ x. go_on x kind leaf) h.1)
 stops_going at (NoPrefix place) m kind leaf h = ap (λ x. go_on x kind leaf) h
 stops_going at (BadIri place) m kind leaf h = ap (λ x. go_on x kind leaf) h
@@ -397,7 +396,7 @@ stops_going at (StoreFull place) m kind leaf h = ap (λ x. go_on x kind leaf) h
 stops_going at NoMemory m kind leaf h = tt
 
 -- a fault at an equal move
-pub stops_as : (at : ℕ) (fault : TurtleFault) (m n : Move) → n ≡ m → Stops at fault m → Stops at fault n
+pub stops_as : (at : ℕ) (fault : TokenFault) (m n : Move) → n ≡ m → Stops at fault m → Stops at fault n
 stops_as at fault m n e h = let P : Move → Type 0 = λ v. Stops at fault v in subst P (sym e) h
 
 -- ---- what follows an object

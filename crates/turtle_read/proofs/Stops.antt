@@ -7,11 +7,10 @@ use Rattle.turtle_document.specs.Machine.Move.{fails}
 use Rattle.turtle_grammar.specs.Tree.{Name}
 use Rattle.turtle_read.specs.Faults.{Refuses, Gives, Stops, Follows}
 use Rattle.turtle_read.specs.Names.{iri_of}
-use Rattle.turtle_read.specs.declared.fault.TurtleFault.{TurtleFault}
-use Rattle.turtle_read.specs.declared.fault.TurtleFault.TheVariants.{Lex, Syntax, NoPrefix, BadIri, Depth, StoreFull, NoMemory}
+use Rattle.turtle_read.specs.declared.token_fault.TokenFault.{TokenFault}
+use Rattle.turtle_read.specs.declared.token_fault.TokenFault.TheVariants.{Syntax, NoPrefix, BadIri, Depth, StoreFull, NoMemory}
 
-pub stops_from : (at : ℕ) (fault : TurtleFault) (m : Move) (R : Fault → Type 0) → Refuses fault R → ((f : Fault) → R f → m ≡ fails f) → Stops at fault m
-stops_from at (Lex fault) m R h g = absurd h
+pub stops_from : (at : ℕ) (fault : TokenFault) (m : Move) (R : Fault → Type 0) → Refuses fault R → ((f : Fault) → R f → m ≡ fails f) → Stops at fault m
 stops_from at (Syntax place) m R h g = absurd h
 stops_from at (NoPrefix place) m R h g = g (no_prefix place) h
 stops_from at (BadIri place) m R h g = g (bad_iri place) h
@@ -19,8 +18,7 @@ stops_from at (Depth place) m R h g = g (too_deep place) h
 stops_from at (StoreFull place) m R h g = g (full_store place) h
 stops_from at NoMemory m R h g = tt
 
-pub refuses_from : (fault : TurtleFault) (R S : Fault → Type 0) → Refuses fault R → ((f : Fault) → R f → S f) → Refuses fault S
-refuses_from (Lex fault) R S h g = absurd h
+pub refuses_from : (fault : TokenFault) (R S : Fault → Type 0) → Refuses fault R → ((f : Fault) → R f → S f) → Refuses fault S
 refuses_from (Syntax place) R S h g = absurd h
 refuses_from (NoPrefix place) R S h g = g (no_prefix place) h
 refuses_from (BadIri place) R S h g = g (bad_iri place) h
@@ -29,11 +27,11 @@ refuses_from (StoreFull place) R S h g = g (full_store place) h
 refuses_from NoMemory R S h g = tt
 
 -- an answer to a move is one to an equal move
-pub follows_as : {T : Type 0} (at : ℕ) (r : Result T TurtleFault) (c : Config) (st : State) (m n : Move) → n ≡ m → Follows at r c st m → Follows at r c st n
+pub follows_as : {T : Type 0} (at : ℕ) (r : Result T TokenFault) (c : Config) (st : State) (m n : Move) → n ≡ m → Follows at r c st m → Follows at r c st n
 follows_as {T} at r c st m n e h = let P : Move → Type 0 = λ v. Follows at r c st v in subst P (sym e) h
 
 -- a fault of what a move begins with
-pub stops_on : {A : Type 0} (at : ℕ) (fault : TurtleFault) (r : Result A Fault) (k : A → Move) → Refuses fault (λ f. r ≡ Err f) → Stops at fault (on r k)
+pub stops_on : {A : Type 0} (at : ℕ) (fault : TokenFault) (r : Result A Fault) (k : A → Move) → Refuses fault (λ f. r ≡ Err f) → Stops at fault (on r k)
 stops_on at fault r k h = stops_from at fault (on r k) (λ f. r ≡ Err f) h (λ f e. ap (λ v. on v k) e)
 
 -- What a token names.
@@ -81,16 +79,16 @@ not_started st f (Some name) e = by (name_of name st) e
     by (Err g) e = let same : g ≡ f = cc in ap Err same
 
 -- a fault that `?` hands on
-pub residual : {T : Type 0} (at : ℕ) (r : Result T TurtleFault) (fault : TurtleFault) (c : Config) (st : State) (m : Move)
+pub residual : {T : Type 0} (at : ℕ) (r : Result T TokenFault) (fault : TokenFault) (c : Config) (st : State) (m : Move)
     → IsErrAnd r (λ made. made ≡ fault) → Stops at fault m → Follows at r c st m
 residual at (Ok x) fault c st m h s = absurd h
-residual at (Err made) fault c st m h s = let P : TurtleFault → Type 0 = λ f. Stops at f m in subst P (sym h) s
+residual at (Err made) fault c st m h s = let P : TokenFault → Type 0 = λ f. Stops at f m in subst P (sym h) s
 
 -- The same of an answer that gives a value: it is one of an equal meaning, or the fault that `?` hands on.
-pub gives_as : {T A : Type 0} (value : T → A) (r : Result T TurtleFault) (m n : Result A Fault) → n ≡ m → Gives value r m → Gives value r n
+pub gives_as : {T A : Type 0} (value : T → A) (r : Result T TokenFault) (m n : Result A Fault) → n ≡ m → Gives value r m → Gives value r n
 gives_as {T} {A} value r m n e h = let P : Result A Fault → Type 0 = λ v. Gives value r v in subst P (sym e) h
 
-pub gives_fault : {T A : Type 0} (value : T → A) (r : Result T TurtleFault) (fault : TurtleFault) (m : Result A Fault)
+pub gives_fault : {T A : Type 0} (value : T → A) (r : Result T TokenFault) (fault : TokenFault) (m : Result A Fault)
     → IsErrAnd r (λ made. made ≡ fault) → Refuses fault (λ f. m ≡ Err f) → Gives value r m
 gives_fault value (Ok x) fault m h s = absurd h
-gives_fault value (Err made) fault m h s = let P : TurtleFault → Type 0 = λ g. Refuses g (λ f. m ≡ Err f) in subst P (sym h) s
+gives_fault value (Err made) fault m h s = let P : TokenFault → Type 0 = λ g. Refuses g (λ f. m ≡ Err f) in subst P (sym h) s

@@ -21,9 +21,11 @@ use Rattle.turtle_document.specs.declared.expected.Expected.TheVariants as expec
 use Rattle.turtle_document.proofs.Reached.{is_between}
 use Rattle.turtle_document.proofs.Reading.{Stands, stands_first, stands_next, reads_stuck, reads_fault, reads_unclosed, reads_bad, reads_document, reads_early}
 use Rattle.turtle_read.specs.declared.fault.TurtleFault.{TurtleFault}
-use Rattle.turtle_read.specs.declared.fault.TurtleFault.TheVariants.{Lex, Syntax, NoPrefix, BadIri, Depth, StoreFull, NoMemory}
+use Rattle.turtle_read.specs.declared.fault.TurtleFault.TheVariants.{Lex}
+use Rattle.turtle_read.specs.declared.token_fault.TokenFault.{TokenFault}
+use Rattle.turtle_read.specs.declared.token_fault.TokenFault.TheVariants.{Syntax, NoPrefix, BadIri, Depth, StoreFull, NoMemory}
 use Rattle.turtle_read.specs.Answers.{Tells}
-use Rattle.turtle_read.specs.Faults.{Stops}
+use Rattle.turtle_read.specs.Faults.{Stops, whole_of}
 use Rattle.turtle_read.specs.Moves.{move}
 use Rattle.turtle_read.specs.Tokens.{IsTokenOf, leaf_in}
 use Rattle.turtle_read.proofs.Tokens.{Cut, cut, Lies, lies}
@@ -138,10 +140,9 @@ tells_syntax : (start : State) (text : List ℕ) (place at : ℕ) → place ≡ 
 tells_syntax start text place at e h = subst (λ (i : ℕ). IsReadAs start text (syntax i)) (sym e) h
 
 -- at a token
-pub stops_at : (start : State) (text : List ℕ) (lexer : Reading) (c : Config) (st : State) (t : Token) (after : Reading) (why : TurtleFault)
-    → IsAt start text lexer c st → Steps lexer (Ok (Some t)) after → Stops t.at why (move c t.kind (leaf_in text t) st) → Tells (IsReadAs start text) why
+pub stops_at : (start : State) (text : List ℕ) (lexer : Reading) (c : Config) (st : State) (t : Token) (after : Reading) (why : TokenFault)
+    → IsAt start text lexer c st → Steps lexer (Ok (Some t)) after → Stops t.at why (move c t.kind (leaf_in text t) st) → Tells (IsReadAs start text) (whole_of why)
 unfolding move
-stops_at start text lexer c st t after (Lex w) h steps s = absurd s
 stops_at start text lexer c st t after (Syntax place) h steps s =
     tells_syntax start text place t.at s.0 (reads_stuck start text lexer.at c st t h.stands (comes start text lexer c st (Ok (Some t)) after h steps).0 s.1)
 stops_at start text lexer c st t after (NoPrefix place) h steps s =

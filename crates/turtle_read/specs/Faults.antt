@@ -6,16 +6,26 @@ use Rattle.turtle_document.specs.Machine.{Config, Move}
 use Rattle.turtle_document.specs.Machine.Move.{to, stuck, fails}
 use Rattle.turtle_grammar.specs.Tree.{Leaf}
 use Rattle.turtle_read.specs.declared.fault.TurtleFault.{TurtleFault}
-use Rattle.turtle_read.specs.declared.fault.TurtleFault.TheVariants.{Lex, Syntax, NoPrefix, BadIri, Depth, StoreFull, NoMemory}
+use Rattle.turtle_read.specs.declared.fault.TurtleFault.TheVariants as whole
 use Rattle.turtle_read.specs.declared.lexeme.Lexeme.{Lexeme}
+use Rattle.turtle_read.specs.declared.token_fault.TokenFault.{TokenFault}
+use Rattle.turtle_read.specs.declared.token_fault.TokenFault.TheVariants.{Syntax, NoPrefix, BadIri, Depth, StoreFull, NoMemory}
 
 -- A token's place and text.
 abbrev pub leaf_of : Lexeme → Leaf
 leaf_of token = record { at = token.at; text = token.text.now }
 
+-- A token's fault is one of the document.
+abbrev pub whole_of : TokenFault → TurtleFault
+whole_of (Syntax at) = whole.Syntax at
+whole_of (NoPrefix at) = whole.NoPrefix at
+whole_of (BadIri at) = whole.BadIri at
+whole_of (Depth at) = whole.Depth at
+whole_of (StoreFull at) = whole.StoreFull at
+whole_of NoMemory = whole.NoMemory
+
 -- The fault of a meaning is one of these. Want of memory says nothing.
-abbrev pub Refuses : TurtleFault → (Fault → Type 0) → Type 0
-Refuses (Lex fault) IsOne = ⊥
+abbrev pub Refuses : TokenFault → (Fault → Type 0) → Type 0
 Refuses (Syntax at) IsOne = ⊥
 Refuses (NoPrefix at) IsOne = IsOne (no_prefix at)
 Refuses (BadIri at) IsOne = IsOne (bad_iri at)
@@ -24,13 +34,12 @@ Refuses (StoreFull at) IsOne = IsOne (full_store at)
 Refuses NoMemory IsOne = Unit {0}
 
 -- An answer is what the meaning gives, where an `Ok` stands for a value.
-abbrev pub Gives : {T A : Type 0} → (T → A) → Result T TurtleFault → Result A Fault → Type 0
+abbrev pub Gives : {T A : Type 0} → (T → A) → Result T TokenFault → Result A Fault → Type 0
 Gives value (Ok x) meant = meant ≡ Ok (value x)
 Gives value (Err fault) meant = Refuses fault (λ f. meant ≡ Err f)
 
 -- No document goes on with the token at this place, or the move has a fault.
-abbrev pub Stops : ℕ → TurtleFault → Move → Type 0
-Stops at (Lex fault) m = ⊥
+abbrev pub Stops : ℕ → TokenFault → Move → Type 0
 Stops at (Syntax place) m = (place ≡ at) × (m ≡ stuck)
 Stops at (NoPrefix place) m = m ≡ fails (no_prefix place)
 Stops at (BadIri place) m = m ≡ fails (bad_iri place)
@@ -39,10 +48,10 @@ Stops at (StoreFull place) m = m ≡ fails (full_store place)
 Stops at NoMemory m = Unit {0}
 
 -- An answer at a token is the move, where an `Ok` leaves this behind.
-abbrev pub Follows : {T : Type 0} → ℕ → Result T TurtleFault → Config → State → Move → Type 0
+abbrev pub Follows : {T : Type 0} → ℕ → Result T TokenFault → Config → State → Move → Type 0
 Follows at (Ok _) after st m = m ≡ to after st
 Follows at (Err fault) after st m = Stops at fault m
 
 -- The same of what no token can't follow: it is so wherever the token stands.
-abbrev pub Leads : {T : Type 0} → Result T TurtleFault → Config → State → Move → Type 0
+abbrev pub Leads : {T : Type 0} → Result T TokenFault → Config → State → Move → Type 0
 Leads result after st m = (at : ℕ) → Follows at result after st m

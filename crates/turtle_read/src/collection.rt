@@ -1,10 +1,10 @@
 ghost use Rattle.std.specs.Prelude.{◌≡◌};
 ghost use Rattle.turtle_document.specs.Machine as document;
 
-use crate::TurtleFault;
 use crate::kinds::begins_object;
 use crate::lexeme::Lexeme;
 use crate::reader::Reader;
+use crate::token_fault::TokenFault;
 use lv_base::NoMemory;
 use triple_store::Term;
 use turtle_document::{Chain, Hole};
@@ -32,7 +32,7 @@ impl Reader {
         &mut self,
         token: Lexeme<'_>,
         chain: Chain,
-    ) -> Result<(), TurtleFault>
+    ) -> Result<(), TokenFault>
         ensures moves { Follows token.entry.at result (config_of self.new) (inside self.new) (machine.in_collection token.entry.kind (leaf_of token.entry) chain self.old.outer (inside self.old)) }
         ensures kept { kept self.new ≡ kept self.old }
     {
@@ -46,7 +46,7 @@ impl Reader {
                 if begins_object(kind) {
                     self.begin_item(token, chain)
                 } else {
-                    Err(TurtleFault::Syntax(token.at))
+                    Err(TokenFault::Syntax(token.at))
                 }
             }
         }
@@ -63,7 +63,7 @@ impl Reader {
     }
 
     // The last node of a collection has nothing as its rest.
-    fn end_chain(&mut self, chain: Chain, at: usize) -> Result<(), TurtleFault>
+    fn end_chain(&mut self, chain: Chain, at: usize) -> Result<(), TokenFault>
         ensures value { Gives (λ _. inside self.new) result (machine.ended chain at (inside self.old)) }
         ensures same { config_of self.new ≡ config_of self.old }
         ensures kept { kept self.new ≡ kept self.old }
@@ -77,7 +77,7 @@ impl Reader {
     }
 
     // The last node of a collection so far has the next one as its rest.
-    fn link(&mut self, chain: Chain, at: usize, node: u32) -> Result<(), TurtleFault>
+    fn link(&mut self, chain: Chain, at: usize, node: u32) -> Result<(), TokenFault>
         ensures value { Gives (λ _. inside self.new) result (machine.linked chain at node (inside self.old)) }
         ensures same { config_of self.new ≡ config_of self.old }
         ensures kept { kept self.new ≡ kept self.old }
@@ -91,7 +91,7 @@ impl Reader {
     }
 
     // An item's first token, which has its fault before the item has its node.
-    fn begin_item(&mut self, token: Lexeme<'_>, chain: Chain) -> Result<(), TurtleFault>
+    fn begin_item(&mut self, token: Lexeme<'_>, chain: Chain) -> Result<(), TokenFault>
         ensures moves { Follows token.entry.at result (config_of self.new) (inside self.new) (machine.begin_item token.entry.kind (leaf_of token.entry) chain self.old.outer (inside self.old)) }
         ensures kept { kept self.new ≡ kept self.old }
     {
@@ -103,7 +103,7 @@ impl Reader {
     }
 
     // An object may start with a token that begins one.
-    fn may_start(&mut self, token: Lexeme<'_>) -> Result<(), TurtleFault>
+    fn may_start(&mut self, token: Lexeme<'_>) -> Result<(), TokenFault>
         ensures value { Gives (λ _. inside self.old) result (machine.started_by token.entry.kind (leaf_of token.entry) (length self.old.outer) (inside self.old)) }
         ensures state { inside self.new ≡ inside self.old }
         ensures same { config_of self.new ≡ config_of self.old }

@@ -1,9 +1,9 @@
 ghost use Rattle.std.specs.Prelude.{◌≡◌};
 ghost use Rattle.turtle_document.specs.Machine as document;
 
-use crate::TurtleFault;
 use crate::lexeme::Lexeme;
 use crate::reader::Reader;
+use crate::token_fault::TokenFault;
 use lv_base::Text;
 use turtle_document::{Expected, Hole};
 use turtle_grammar::TokenKind;
@@ -26,7 +26,7 @@ impl Reader {
     ghost use Rattle.turtle_read.specs.Readers.{config_of, inside, kept};
 
     // A statement's first token.
-    pub(crate) fn at_statement(&mut self, token: Lexeme<'_>) -> Result<(), TurtleFault>
+    pub(crate) fn at_statement(&mut self, token: Lexeme<'_>) -> Result<(), TokenFault>
         ensures moves { Follows token.entry.at result (config_of self.new) (inside self.new) (machine.at_statement token.entry.kind (leaf_of token.entry) self.old.outer (inside self.old)) }
         ensures kept { kept self.new ≡ kept self.old }
     {
@@ -45,7 +45,7 @@ impl Reader {
     }
 
     // `@prefix` or `@base`: they are tokens of the form of a language tag.
-    fn at_directive(&mut self, token: Lexeme<'_>) -> Result<(), TurtleFault>
+    fn at_directive(&mut self, token: Lexeme<'_>) -> Result<(), TokenFault>
         ensures moves { Follows token.entry.at result (config_of self.new) (inside self.new) (machine.at_directive (leaf_of token.entry).text self.old.outer (inside self.old)) }
         ensures kept { kept self.new ≡ kept self.old }
     {
@@ -56,12 +56,12 @@ impl Reader {
             self.expect(Expected::Base { dot: true });
             Ok(())
         } else {
-            Err(TurtleFault::Syntax(token.at))
+            Err(TokenFault::Syntax(token.at))
         }
     }
 
     // The prefix of a directive.
-    pub(crate) fn at_prefix(&mut self, token: Lexeme<'_>, dot: bool) -> Result<(), TurtleFault>
+    pub(crate) fn at_prefix(&mut self, token: Lexeme<'_>, dot: bool) -> Result<(), TokenFault>
         ensures moves { Follows token.entry.at result (config_of self.new) (inside self.new) (machine.at_prefix token.entry.kind (leaf_of token.entry) dot self.old.outer (inside self.old)) }
         ensures kept { kept self.new ≡ kept self.old }
     {
@@ -71,7 +71,7 @@ impl Reader {
                 self.expect(Expected::Namespace { dot, prefix });
                 Ok(())
             }
-            _ => Err(TurtleFault::Syntax(token.at)),
+            _ => Err(TokenFault::Syntax(token.at)),
         }
     }
 
@@ -81,7 +81,7 @@ impl Reader {
         token: Lexeme<'_>,
         dot: bool,
         prefix: Text,
-    ) -> Result<(), TurtleFault>
+    ) -> Result<(), TokenFault>
         ensures moves { Follows token.entry.at result (config_of self.new) (inside self.new) (machine.at_namespace token.entry.kind (leaf_of token.entry) dot prefix self.old.outer (inside self.old)) }
         ensures kept { kept self.new ≡ kept self.old }
     {
@@ -92,12 +92,12 @@ impl Reader {
                 self.expect(after_iri(dot));
                 Ok(())
             }
-            _ => Err(TurtleFault::Syntax(token.at)),
+            _ => Err(TokenFault::Syntax(token.at)),
         }
     }
 
     // The IRI of a base.
-    pub(crate) fn at_base(&mut self, token: Lexeme<'_>, dot: bool) -> Result<(), TurtleFault>
+    pub(crate) fn at_base(&mut self, token: Lexeme<'_>, dot: bool) -> Result<(), TokenFault>
         ensures moves { Follows token.entry.at result (config_of self.new) (inside self.new) (machine.at_base token.entry.kind (leaf_of token.entry) dot self.old.outer (inside self.old)) }
         ensures kept { kept self.new ≡ kept self.old }
     {
@@ -107,12 +107,12 @@ impl Reader {
                 self.expect(after_iri(dot));
                 Ok(())
             }
-            _ => Err(TurtleFault::Syntax(token.at)),
+            _ => Err(TokenFault::Syntax(token.at)),
         }
     }
 
     // The dot of a directive.
-    pub(crate) fn at_dot(&mut self, token: Lexeme<'_>) -> Result<(), TurtleFault>
+    pub(crate) fn at_dot(&mut self, token: Lexeme<'_>) -> Result<(), TokenFault>
         ensures moves { Follows token.entry.at result (config_of self.new) (inside self.new) (machine.at_dot token.entry.kind self.old.outer (inside self.old)) }
         ensures kept { kept self.new ≡ kept self.old }
     {
@@ -121,7 +121,7 @@ impl Reader {
                 self.expect(Expected::Statement);
                 Ok(())
             }
-            _ => Err(TurtleFault::Syntax(token.at)),
+            _ => Err(TokenFault::Syntax(token.at)),
         }
     }
 }

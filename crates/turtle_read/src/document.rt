@@ -15,6 +15,7 @@ use crate::lexeme::Lexeme;
 use crate::reader::Reader;
 use crate::recent::Recent;
 use crate::shared::SharedTexts;
+use crate::token_fault::TokenFault;
 use crate::vocabulary::Vocabulary;
 use lv_base::Text;
 use std::alloc::Global;
@@ -87,7 +88,7 @@ fn take_tokens(reader: &mut Reader, text: &str) -> Result<(), TurtleFault>
 
 #[inline(always)]
 // Takes a token of a text.
-fn take_token(reader: &mut Reader, text: &str, token: Token) -> Result<(), TurtleFault>
+fn take_token(reader: &mut Reader, text: &str, token: Token) -> Result<(), TokenFault>
     requires { IsTokenOf text.now token }
     ensures moves { Follows token.at result (config_of reader.new) (inside reader.new) (machine.move (config_of reader.old) token.kind (leaf_in text.now token) (inside reader.old)) }
     ensures kept { kept reader.new ≡ kept reader.old }

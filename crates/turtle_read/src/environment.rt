@@ -5,10 +5,10 @@ ghost use Rattle.std.specs.Str.{bytes_eq};
 ghost use Rattle.triple_store.specs.Triples.{blanks_of_triple, blanks_of_term};
 ghost use Rattle.turtle_read.specs.Recents.{AreKnown};
 
-use crate::TurtleFault;
 use crate::lexeme::Lexeme;
 use crate::name::Name;
 use crate::recent::Recent;
+use crate::token_fault::TokenFault;
 use indexmap::IndexMap;
 use iri_resolve::{IriFault, resolve};
 use lv_base::{NoMemory, Text};
@@ -88,24 +88,24 @@ impl Environment {
 
     #[tactic(auto, using(crate::proofs::Adds::kept_added, crate::proofs::Adds::held_added, crate::proofs::Adds::kept_same), unfolding(crate::specs::States::kept_of))]
     /// Adds a triple, once its object has been read up to the token at `at`.
-    pub fn add(&mut self, at: usize, s: Term, p: Term, o: Term) -> Result<(), TurtleFault>
+    pub fn add(&mut self, at: usize, s: Term, p: Term, o: Term) -> Result<(), TokenFault>
         ensures value { Gives (λ _. state_of self.new) result (moves.add at s p o (state_of self.old)) }
         ensures kept { kept_of self.new ≡ kept_of self.old }
     {
         let triple = Triple { s, p, o };
         if !are_numbered(&triple) {
-            return Err(TurtleFault::NoMemory);
+            return Err(TokenFault::NoMemory);
         }
         let is_full = self.store.rows().len() >= MOST_ROWS;
         match self.store.add(triple) {
             Ok(is_new) => {
                 if is_new && is_full {
-                    return Err(TurtleFault::StoreFull(at));
+                    return Err(TokenFault::StoreFull(at));
                 }
                 Ok(())
             }
-            Err(StoreFault::Full) => Err(TurtleFault::StoreFull(at)),
-            Err(StoreFault::NoMemory) => Err(TurtleFault::NoMemory),
+            Err(StoreFault::Full) => Err(TokenFault::StoreFull(at)),
+            Err(StoreFault::NoMemory) => Err(TokenFault::NoMemory),
         }
     }
 
@@ -152,7 +152,7 @@ impl Environment {
 
     #[tactic(auto, using(crate::proofs::Recents::none_known), unfolding(crate::specs::States::kept_of, crate::specs::Moves::based_on, crate::specs::Moves::absolute))]
     /// The IRI of a reference is the base from here on.
-    pub fn set_base(&mut self, token: Lexeme<'_>) -> Result<(), TurtleFault>
+    pub fn set_base(&mut self, token: Lexeme<'_>) -> Result<(), TokenFault>
         ensures value { Gives (λ _. state_of self.new) result (moves.based_on (leaf_of token.entry) (state_of self.old)) }
         ensures kept { kept_of self.new ≡ kept_of self.old }
     {
@@ -163,7 +163,7 @@ impl Environment {
     }
 
     /// The IRI of a reference, seen from the base.
-    pub fn absolute(&self, token: Lexeme<'_>) -> Result<Text, TurtleFault>
+    pub fn absolute(&self, token: Lexeme<'_>) -> Result<Text, TokenFault>
         ensures value { Gives (λ iri. iri) result (moves.absolute self.now.base (leaf_of token.entry)) }
         ensures scheme { IfOk result (λ iri. is_some (scheme_of iri) ≡ true) }
     {
@@ -177,35 +177,35 @@ impl Environment {
     }
 
     // The IRI of a reference that a token writes.
-    fn seen(&self, token: Lexeme<'_>, reference: &str) -> Result<Text, TurtleFault>
+    fn seen(&self, token: Lexeme<'_>, reference: &str) -> Result<Text, TokenFault>
         requires { reference.now ≡ reference_of token.text.now }
         ensures value { Gives (λ iri. iri) result (moves.absolute self.now.base (leaf_of token.entry)) }
         ensures scheme { IfOk result (λ iri. is_some (scheme_of iri) ≡ true) }
     {
         match resolve(self.alloc, &self.base, reference.as_bytes()) {
             Ok(iri) => Ok(iri),
-            Err(IriFault::BadChar(_)) => Err(TurtleFault::BadIri(token.at)),
+            Err(IriFault::BadChar(_)) => Err(TokenFault::BadIri(token.at)),
             Err(IriFault::NotAbsoluteBase) => unreachable!(),
-            Err(IriFault::NoMemory) => Err(TurtleFault::NoMemory),
+            Err(IriFault::NoMemory) => Err(TokenFault::NoMemory),
         }
     }
 
     #[tactic(auto, unfolding(crate::specs::Moves::expanded))]
     /// The IRI of a prefixed name.
-    fn expanded(&self, token: Lexeme<'_>) -> Result<Text, TurtleFault>
+    fn expanded(&self, token: Lexeme<'_>) -> Result<Text, TokenFault>
         ensures { Gives (λ iri. iri) result (moves.expanded (leaf_of token.entry) (state_of self.now)) }
     {
         let prefix = turtle_value::prefix_text(token.text);
         match self.prefixes.get(Name(prefix)) {
             Some(namespace) => Ok(turtle_value::expand(self.alloc, namespace, token.text)?),
-            None => Err(TurtleFault::NoPrefix(token.at)),
+            None => Err(TokenFault::NoPrefix(token.at)),
         }
     }
 
     #[inline(always)]
     #[tactic(auto, unfolding(crate::specs::States::kept_of))]
     /// The IRI that a token names, `None` where it is no name. It is kept for the next time, if such names come `again`.
-    pub fn iri_of(&mut self, token: Lexeme<'_>, again: bool) -> Result<Option<Text>, TurtleFault>
+    pub fn iri_of(&mut self, token: Lexeme<'_>, again: bool) -> Result<Option<Text>, TokenFault>
         ensures value { Gives (λ iri. iri) result (moves.named token.entry.kind (leaf_of token.entry) (state_of self.old)) }
         ensures state { state_of self.new ≡ state_of self.old }
         ensures kept { kept_of self.new ≡ kept_of self.old }
@@ -226,7 +226,7 @@ impl Environment {
     #[inline(never)]
     #[tactic(auto, unfolding(crate::specs::Moves::named, crate::specs::Moves::absolute, crate::specs::Moves::expanded))]
     // The same, of a name that isn't kept.
-    fn named(&self, token: Lexeme<'_>) -> Result<Option<Text>, TurtleFault>
+    fn named(&self, token: Lexeme<'_>) -> Result<Option<Text>, TokenFault>
         ensures { Gives (λ iri. iri) result (moves.named token.entry.kind (leaf_of token.entry) (state_of self.now)) }
     {
         match token.kind {

@@ -1,6 +1,8 @@
 ghost use Rattle.std.specs.Prelude.{◌≡◌};
+ghost use Rattle.turtle_read.specs.Faults.{whole_of};
 ghost use Rattle.turtle_read.specs.declared.fault.TurtleFault.TheVariants as faults;
 
+use crate::token_fault::TokenFault;
 use lv_base::NoMemory;
 use std::alloc::AllocError;
 use turtle_lex::LexFault;
@@ -37,6 +39,21 @@ impl From<AllocError> for TurtleFault {
 
     fn from(_: AllocError) -> Self {
         TurtleFault::NoMemory
+    }
+}
+
+impl From<TokenFault> for TurtleFault {
+    ghost from_gives = { λ fault made. made ≡ whole_of fault };
+
+    fn from(fault: TokenFault) -> Self {
+        match fault {
+            TokenFault::Syntax(at) => TurtleFault::Syntax(at),
+            TokenFault::NoPrefix(at) => TurtleFault::NoPrefix(at),
+            TokenFault::BadIri(at) => TurtleFault::BadIri(at),
+            TokenFault::Depth(at) => TurtleFault::Depth(at),
+            TokenFault::StoreFull(at) => TurtleFault::StoreFull(at),
+            TokenFault::NoMemory => TurtleFault::NoMemory,
+        }
     }
 }
 

@@ -1,5 +1,5 @@
-use crate::TurtleFault;
 use crate::reader::Reader;
+use crate::token_fault::TokenFault;
 use lv_base::NoMemory;
 use triple_store::Term;
 use turtle_document::{Chain, Expected, Hole};
@@ -16,7 +16,7 @@ impl Reader {
 
     // Fills a hole with a term whose last token stands at `at`.
     #[inline(always)]
-    pub(crate) fn fill(&mut self, hole: Hole, at: usize, term: Term) -> Result<(), TurtleFault>
+    pub(crate) fn fill(&mut self, hole: Hole, at: usize, term: Term) -> Result<(), TokenFault>
         ensures moves { Leads result (config_of self.new) (inside self.new) (filled hole at term self.old.outer (inside self.old)) }
         ensures kept { kept self.new ≡ kept self.old }
     {
@@ -41,7 +41,7 @@ impl Reader {
         predicate: Term,
         at: usize,
         term: Term,
-    ) -> Result<(), TurtleFault>
+    ) -> Result<(), TokenFault>
         ensures moves { Leads result (config_of self.new) (inside self.new) (filled (Hole.Object subject predicate) at term self.old.outer (inside self.old)) }
         ensures kept { kept self.new ≡ kept self.old }
     {
@@ -52,7 +52,7 @@ impl Reader {
         Ok(())
     }
 
-    fn add_item(&mut self, first: u32, node: u32, at: usize, term: Term) -> Result<(), TurtleFault>
+    fn add_item(&mut self, first: u32, node: u32, at: usize, term: Term) -> Result<(), TokenFault>
         ensures moves { Leads result (config_of self.new) (inside self.new) (filled (Hole.Item first node) at term self.old.outer (inside self.old)) }
         ensures kept { kept self.new ≡ kept self.old }
     {
@@ -65,24 +65,24 @@ impl Reader {
     }
 
     // Fills the innermost hole.
-    pub(crate) fn close(&mut self, at: usize, term: Term) -> Result<(), TurtleFault>
+    pub(crate) fn close(&mut self, at: usize, term: Term) -> Result<(), TokenFault>
         ensures moves { Follows at result (config_of self.new) (inside self.new) (closed at term self.old.outer (inside self.old)) }
         ensures kept { kept self.new ≡ kept self.old }
     {
         match self.outer.pop() {
             Some(hole) => self.fill(hole, at, term),
-            None => Err(TurtleFault::Syntax(at)),
+            None => Err(TokenFault::Syntax(at)),
         }
     }
 
     // One more bracket may open at a place.
-    pub(crate) fn may_open(&self, at: usize) -> Result<(), TurtleFault>
+    pub(crate) fn may_open(&self, at: usize) -> Result<(), TokenFault>
         ensures { Gives (λ _. inside self.now) result (may_open at (length self.now.outer) (inside self.now)) }
     {
         if self.outer.len() < MOST_OPEN {
             Ok(())
         } else {
-            Err(TurtleFault::Depth(at))
+            Err(TokenFault::Depth(at))
         }
     }
 }

@@ -19,6 +19,7 @@ mod slot;
 mod string;
 #[cfg(test)]
 mod tests;
+mod token_fault;
 mod verb;
 mod vocabulary;
 

@@ -1,7 +1,7 @@
-use crate::TurtleFault;
 use crate::kinds::quotes_of;
 use crate::lexeme::Lexeme;
 use crate::reader::Reader;
+use crate::token_fault::TokenFault;
 use triple_store::Term;
 use turtle_document::{Chain, Expected, Hole};
 use turtle_grammar::TokenKind;
@@ -14,7 +14,7 @@ impl Reader {
 
     // The first token of an object that fills a hole.
     #[inline(always)]
-    pub(crate) fn begin_object(&mut self, token: Lexeme<'_>, hole: Hole) -> Result<(), TurtleFault>
+    pub(crate) fn begin_object(&mut self, token: Lexeme<'_>, hole: Hole) -> Result<(), TokenFault>
         ensures moves { Follows token.entry.at result (config_of self.new) (inside self.new) (machine.begin_object token.entry.kind hole (leaf_of token.entry) self.old.outer (inside self.old)) }
         ensures kept { kept self.new ≡ kept self.old }
     {
@@ -34,7 +34,7 @@ impl Reader {
 
     // The first token of an object that is no string.
     #[inline(always)]
-    fn begin_short(&mut self, token: Lexeme<'_>, hole: Hole) -> Result<(), TurtleFault>
+    fn begin_short(&mut self, token: Lexeme<'_>, hole: Hole) -> Result<(), TokenFault>
         ensures moves { Follows token.entry.at result (config_of self.new) (inside self.new) (machine.begin_short token.entry.kind hole (leaf_of token.entry) self.old.outer (inside self.old)) }
         ensures kept { kept self.new ≡ kept self.old }
     {
@@ -55,7 +55,7 @@ impl Reader {
         &mut self,
         token: Lexeme<'_>,
         hole: Hole,
-    ) -> Result<(), TurtleFault>
+    ) -> Result<(), TokenFault>
         ensures moves { Follows token.entry.at result (config_of self.new) (inside self.new) (machine.begin_resource token.entry.kind hole (leaf_of token.entry) self.old.outer (inside self.old)) }
         ensures kept { kept self.new ≡ kept self.old }
     {
@@ -68,7 +68,7 @@ impl Reader {
     }
 
     // The first token of a blank node.
-    fn begin_node(&mut self, token: Lexeme<'_>, hole: Hole) -> Result<(), TurtleFault>
+    fn begin_node(&mut self, token: Lexeme<'_>, hole: Hole) -> Result<(), TokenFault>
         ensures moves { Follows token.entry.at result (config_of self.new) (inside self.new) (machine.begin_node token.entry.kind hole (leaf_of token.entry) self.old.outer (inside self.old)) }
         ensures kept { kept self.new ≡ kept self.old }
     {
@@ -92,7 +92,7 @@ impl Reader {
                 });
                 Ok(())
             }
-            _ => Err(TurtleFault::Syntax(token.at)),
+            _ => Err(TokenFault::Syntax(token.at)),
         }
     }
 }

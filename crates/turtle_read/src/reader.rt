@@ -1,10 +1,10 @@
 ghost use Rattle.std.specs.Prelude.{◌≡◌};
 
-use crate::TurtleFault;
 use crate::environment::Environment;
 use crate::holes::Holes;
 use crate::lexeme::Lexeme;
 use crate::shared::SharedTexts;
+use crate::token_fault::TokenFault;
 use crate::vocabulary::Vocabulary;
 use std::alloc::Global;
 use std::mem;
@@ -85,7 +85,7 @@ impl Reader {
 
     #[inline(always)]
     /// Reads one token more.
-    pub fn step(&mut self, token: Lexeme<'_>) -> Result<(), TurtleFault>
+    pub fn step(&mut self, token: Lexeme<'_>) -> Result<(), TokenFault>
         ensures moves { Follows token.entry.at result (config_of self.new) (inside self.new) (machine.move (config_of self.old) token.entry.kind (leaf_of token.entry) (inside self.old)) }
         ensures kept { kept self.new ≡ kept self.old }
     {
@@ -101,7 +101,7 @@ impl Reader {
         &mut self,
         token: Lexeme<'_>,
         next: Expected,
-    ) -> Result<(), TurtleFault>
+    ) -> Result<(), TokenFault>
         ensures moves { Follows token.entry.at result (config_of self.new) (inside self.new) (machine.plain_move next self.old.outer token.entry.kind (leaf_of token.entry) (inside self.old)) }
         ensures kept { kept self.new ≡ kept self.old }
     {
@@ -123,7 +123,7 @@ impl Reader {
             Expected::Item { chain } => self.in_collection(token, chain),
             Expected::Property { node } => self.in_brackets(token, node),
             Expected::Datatype { text, hole } => self.typed_by(token, text, hole),
-            Expected::Suffix { .. } => Err(TurtleFault::Syntax(token.at)),
+            Expected::Suffix { .. } => Err(TokenFault::Syntax(token.at)),
         }
     }
 }

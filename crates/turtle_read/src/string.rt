@@ -1,7 +1,7 @@
-use crate::TurtleFault;
 use crate::kinds::begins_object;
 use crate::lexeme::Lexeme;
 use crate::reader::Reader;
+use crate::token_fault::TokenFault;
 use lv_base::Text;
 use turtle_document::{Expected, Hole};
 use turtle_grammar::TokenKind;
@@ -20,7 +20,7 @@ impl Reader {
         text: Text,
         at: usize,
         hole: Hole,
-    ) -> Result<(), TurtleFault>
+    ) -> Result<(), TokenFault>
         ensures moves { Follows token.entry.at result (config_of self.new) (inside self.new) (machine.after_string token.entry.kind (leaf_of token.entry) text at hole self.old.outer (inside self.old)) }
         ensures kept { kept self.new ≡ kept self.old }
     {
@@ -45,14 +45,14 @@ impl Reader {
         text: Text,
         at: usize,
         hole: Hole,
-    ) -> Result<(), TurtleFault>
+    ) -> Result<(), TokenFault>
         requires untagged { token.kind ≢ kinds.LanguageTag }
         requires untyped { token.kind ≢ kinds.DoubleCaret }
         ensures moves { Follows token.entry.at result (config_of self.new) (inside self.new) (machine.after_string token.entry.kind (leaf_of token.entry) text at hole self.old.outer (inside self.old)) }
         ensures kept { kept self.new ≡ kept self.old }
     {
         if !self.follows(&hole, token.kind) {
-            return Err(TurtleFault::Syntax(token.at));
+            return Err(TokenFault::Syntax(token.at));
         }
         let term = self.words.plain(text)?;
         self.fill(hole, at, term)?;
@@ -85,7 +85,7 @@ impl Reader {
         token: Lexeme<'_>,
         text: Text,
         hole: Hole,
-    ) -> Result<(), TurtleFault>
+    ) -> Result<(), TokenFault>
         ensures moves { Follows token.entry.at result (config_of self.new) (inside self.new) (machine.typed_by token.entry.kind (leaf_of token.entry) text hole self.old.outer (inside self.old)) }
         ensures kept { kept self.new ≡ kept self.old }
     {
@@ -94,7 +94,7 @@ impl Reader {
                 let term = self.words.typed(text, datatype)?;
                 self.fill(hole, token.at, term)
             }
-            None => Err(TurtleFault::Syntax(token.at)),
+            None => Err(TokenFault::Syntax(token.at)),
         }
     }
 }

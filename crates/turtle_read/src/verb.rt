@@ -1,6 +1,6 @@
-use crate::TurtleFault;
 use crate::lexeme::Lexeme;
 use crate::reader::Reader;
+use crate::token_fault::TokenFault;
 use triple_store::Term;
 use turtle_document::{Expected, Hole};
 use turtle_grammar::TokenKind;
@@ -13,7 +13,7 @@ impl Reader {
 
     // A verb.
     #[inline(always)]
-    pub(crate) fn at_verb(&mut self, token: Lexeme<'_>, subject: Term) -> Result<(), TurtleFault>
+    pub(crate) fn at_verb(&mut self, token: Lexeme<'_>, subject: Term) -> Result<(), TokenFault>
         ensures moves { Follows token.entry.at result (config_of self.new) (inside self.new) (machine.at_verb token.entry.kind (leaf_of token.entry) subject self.old.outer (inside self.old)) }
         ensures kept { kept self.new ≡ kept self.old }
     {
@@ -30,7 +30,7 @@ impl Reader {
     }
 
     // A verb that is no name.
-    fn at_a(&mut self, token: Lexeme<'_>, subject: Term) -> Result<(), TurtleFault>
+    fn at_a(&mut self, token: Lexeme<'_>, subject: Term) -> Result<(), TokenFault>
         ensures moves { Follows token.entry.at result (config_of self.new) (inside self.new) (machine.at_a token.entry.kind subject self.old.outer (inside self.old)) }
         ensures kept { kept self.new ≡ kept self.old }
     {
@@ -40,24 +40,24 @@ impl Reader {
                 self.expect(Expected::Object { subject, predicate });
                 Ok(())
             }
-            _ => Err(TurtleFault::Syntax(token.at)),
+            _ => Err(TokenFault::Syntax(token.at)),
         }
     }
 
     // The end of what is said of a subject.
-    fn at_end(&mut self, token: Lexeme<'_>, subject: Term) -> Result<(), TurtleFault>
+    fn at_end(&mut self, token: Lexeme<'_>, subject: Term) -> Result<(), TokenFault>
         ensures moves { Follows token.entry.at result (config_of self.new) (inside self.new) (machine.at_end token.entry.kind (leaf_of token.entry) subject self.old.outer (inside self.old)) }
         ensures kept { kept self.new ≡ kept self.old }
     {
         match token.kind {
             TokenKind::Dot => self.end_statement(token.at),
             TokenKind::CloseSquare => self.close(token.at, subject),
-            _ => Err(TurtleFault::Syntax(token.at)),
+            _ => Err(TokenFault::Syntax(token.at)),
         }
     }
 
     // A statement's dot.
-    fn end_statement(&mut self, at: usize) -> Result<(), TurtleFault>
+    fn end_statement(&mut self, at: usize) -> Result<(), TokenFault>
         ensures moves { Follows at result (config_of self.new) (inside self.new) (machine.end_statement self.old.outer (inside self.old)) }
         ensures kept { kept self.new ≡ kept self.old }
     {
@@ -65,7 +65,7 @@ impl Reader {
             self.expect(Expected::Statement);
             Ok(())
         } else {
-            Err(TurtleFault::Syntax(at))
+            Err(TokenFault::Syntax(at))
         }
     }
 
@@ -76,7 +76,7 @@ impl Reader {
         token: Lexeme<'_>,
         subject: Term,
         predicate: Term,
-    ) -> Result<(), TurtleFault>
+    ) -> Result<(), TokenFault>
         ensures moves { Follows token.entry.at result (config_of self.new) (inside self.new) (machine.after_object token.entry.kind (leaf_of token.entry) subject predicate self.old.outer (inside self.old)) }
         ensures kept { kept self.new ≡ kept self.old }
     {
@@ -99,7 +99,7 @@ impl Reader {
         &mut self,
         token: Lexeme<'_>,
         subject: Term,
-    ) -> Result<(), TurtleFault>
+    ) -> Result<(), TokenFault>
         ensures moves { Follows token.entry.at result (config_of self.new) (inside self.new) (machine.after_semicolon token.entry.kind (leaf_of token.entry) subject self.old.outer (inside self.old)) }
         ensures kept { kept self.new ≡ kept self.old }
     {
@@ -119,7 +119,7 @@ impl Reader {
         &mut self,
         token: Lexeme<'_>,
         subject: Term,
-    ) -> Result<(), TurtleFault>
+    ) -> Result<(), TokenFault>
         ensures moves { Follows token.entry.at result (config_of self.new) (inside self.new) (machine.after_listed token.entry.kind (leaf_of token.entry) subject self.old.outer (inside self.old)) }
         ensures kept { kept self.new ≡ kept self.old }
     {
@@ -131,7 +131,7 @@ impl Reader {
     }
 
     // A verb in brackets that were opened for a node, or their end.
-    pub(crate) fn in_brackets(&mut self, token: Lexeme<'_>, node: u32) -> Result<(), TurtleFault>
+    pub(crate) fn in_brackets(&mut self, token: Lexeme<'_>, node: u32) -> Result<(), TokenFault>
         ensures moves { Follows token.entry.at result (config_of self.new) (inside self.new) (machine.in_brackets token.entry.kind (leaf_of token.entry) node self.old.outer (inside self.old)) }
         ensures kept { kept self.new ≡ kept self.old }
     {
