@@ -22,7 +22,8 @@ pub enum Term {
     },
 }
 
-/// The kind is hashed as one byte, where a derived hash takes eight.
+/// An IRI, the kind that comes most, is fed as its text alone. The other kinds begin with a byte that stands in no UTF-8, so that
+/// it begins no text: 0xFE a blank node, 0xFD a literal without a language tag, 0xFC one with a tag. A byte 0xFF ends each text.
 impl Hash for Term {
     ghost hash_input = { fed_of };
 
@@ -30,20 +31,26 @@ impl Hash for Term {
 
     fn hash<H: Hasher>(&self, state: &mut H) {
         match self {
-            Term::Iri(iri) => {
-                0u8.hash(state);
-                iri.hash(state);
-            }
+            Term::Iri(iri) => iri.hash(state),
             Term::Blank(number) => {
-                1u8.hash(state);
+                0xFEu8.hash(state);
                 number.hash(state);
             }
             Term::Literal {
                 text,
                 datatype,
                 lang,
+            } if lang.as_str().is_empty() => {
+                0xFDu8.hash(state);
+                text.hash(state);
+                datatype.hash(state);
+            }
+            Term::Literal {
+                text,
+                datatype,
+                lang,
             } => {
-                2u8.hash(state);
+                0xFCu8.hash(state);
                 text.hash(state);
                 datatype.hash(state);
                 lang.hash(state);
