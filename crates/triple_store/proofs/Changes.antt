@@ -21,7 +21,7 @@ pub sets-other : (f g : Term → Option Ends) (s : Term) (w : Option Ends) (q : 
 sets-other f g s w q sets other = sets q ∙ ap (λ b. cond b w (f q)) other
 
 -- two changes of one subject in turn are the second
-twice : (f g k : Term → Option Ends) (s : Term) (v w : Option Ends) → Sets f s v g → Sets g s w k → Sets f s w k
+pub twice : (f g k : Term → Option Ends) (s : Term) (v w : Option Ends) → Sets f s v g → Sets g s w k → Sets f s w k
 twice f g k s v w first second q = second q ∙ ap (λ o. cond (same_term s q) w o) (first q) ∙ inner (same_term s q) (f q)
   where
     inner : (b : Bool) (o : Option Ends) → cond b w (cond b v o) ≡ cond b w o
@@ -67,7 +67,3 @@ pub removed : {S : Type 0} (m k n : IndexMap Term Ends S) (s : Term) (o : Option
     → ((q : Term) → get term_eq.it n q ≡ cond (term_eq.it s q) None (get term_eq.it k q)) → Sets (get same_term m) s None (get same_term n)
 removed m k n s o x new value is writes updates =
     twice (get same_term m) (get same_term k) (get same_term n) s (Some new) None (written m k s o x new value is writes) (sets k n s None updates)
-
--- the same entries keep the same for each subject
-pub same_entries : {S : Type 0} (m n : IndexMap Term Ends S) (q : Term) → n.entries ≡ m.entries → get same_term n q ≡ get same_term m q
-same_entries m n q e = rw e refl

@@ -170,15 +170,6 @@ front_of rows front t whole =
 pub last_within : (subjects : Subjects) (front : List Triple) (s : Term) (d : Ends) → AreIndexed subjects front → ends_of subjects s ≡ Some d → d.last < length subjects.next.items
 last_within subjects front s d indexed was = omega (arith, about-within s front d.last ((indexed.each s).last d was).passes, indexed.next_as_long)
 
--- the same chains
-pub indexed-same : (old new : Subjects) (rows : List Triple) → AreIndexed old rows → new.next.items ≡ old.next.items → new.previous.items ≡ old.previous.items
-    → ((q : Term) → ends_of new q ≡ ends_of old q) → AreIndexed new rows
-indexed-same old new rows indexed next previous ends = record {
-  next_as_long = ap length next ∙ indexed.next_as_long;
-  previous_as_long = ap length previous ∙ indexed.previous_as_long;
-  each = λ q. rw (next, previous, ends q) (indexed.each q);
-}
-
 -- what `pop` takes from the links
 pub taken : (subjects : Subjects) (front rows : List Triple) (t : Triple) → AreIndexed subjects rows → rows ≡ front ++ t ∷ [] → (new : List ℕ) (r : Option ℕ)
     → subjects.next.items ≡ new ++ option_to_list r → (0 < vec_len subjects.next → IsSome r) → (x : ℕ) × (subjects.next.items ≡ new ++ x ∷ [])

@@ -88,7 +88,7 @@ impl Store {
     }
 
     /// Adds a triple at the end where it is new, and answers whether it was. Blank numbers are below 2^31. It hashes the triple
-    /// once, and its subject where the triple is new; the time doesn't grow with the rows.
+    /// once, and its subject at most once, where the triple is new; the time doesn't grow with the rows.
     ///
     /// `Full` comes exactly where the triple is new and there are `MOST_ROWS` rows. A refusal leaves all as before.
     pub fn add(&mut self, triple: Triple) -> Result<bool, StoreFault>
