@@ -1,45 +1,39 @@
--- What a store keeps, after an added row, a refused one and a cut.
-use Rattle.std.proofs.Common.{◌≡◌, ◌≢◌, ℕ, zero, suc, ◌-◌, ◌≤◌, max, Bool, true, false, List, [], ◌∷◌, ◌++◌, length, take, refl, ap, sym, subst, ◌∙◌, true≢false, arith, length-append}
+-- What a store keeps, after an added row and after a cut.
+use Rattle.std.proofs.Common.{◌≡◌, ◌≢◌, ℕ, zero, suc, ◌-◌, ◌≤◌, max, List, [], ◌∷◌, ◌++◌, length, take, refl, ap, sym, subst, ◌∙◌, arith, length-append}
 use Rattle.std.proofs.lemmas.List.{length-take, length-take-le}
-use Rattle.triple_store.specs.Index.{blanks_so_far, AreIndexed, IsKept}
-use Rattle.triple_store.specs.Triples.{Adds, blanks_of, blanks_of_triple}
+use Rattle.triple_store.specs.Index.{blanks_so_far, AreIndexed}
+use Rattle.triple_store.specs.Kept.{IsKept}
+use Rattle.triple_store.specs.Late.{AreLate}
+use Rattle.triple_store.specs.Triples.{blanks_of, blanks_of_triple}
 use Rattle.triple_store.specs.declared.fault.TheConstants.{MOST_ROWS}
+use Rattle.triple_store.specs.declared.late.Late.{Late}
 use Rattle.triple_store.specs.declared.subjects.Subjects.{Subjects}
 use Rattle.triple_store.specs.declared.term.Triple.{Triple}
 use Rattle.triple_store.proofs.Blanks.{blanks_so_far-push, blanks_so_far-take}
 
--- a new row stands at the end
-new_rows : (rows new : List Triple) (t : Triple) (is_new : Bool) → Adds rows t is_new new → is_new ≡ true → new ≡ rows ++ t ∷ []
-new_rows rows new t true adds h = adds.1
-new_rows rows new t false adds h = absurd (true≢false (sym h))
-
--- after a new row there is room
-few_after : (rows new : List Triple) (t : Triple) (is_new : Bool) (place : ℕ) → length rows ≤ MOST_ROWS → Adds rows t is_new new → is_new ≡ true → place ≡ length rows → place ≢ MOST_ROWS
-    → length new ≤ MOST_ROWS
-few_after rows new t is_new place few adds h at room = omega (arith, ap length (new_rows rows new t is_new adds h), length-append rows (t ∷ []), few, at, room)
-
 -- after a new row, with its bound and its place
-pub kept-push : (rows new : List Triple) (t : Triple) (is_new : Bool) (bounds new_bounds : List ℕ) (subjects new_subjects : Subjects) (place most : ℕ)
-    → IsKept rows bounds subjects → Adds rows t is_new new → is_new ≡ true → place ≡ length rows → place ≢ MOST_ROWS
-    → most ≡ max (blanks_of rows) (blanks_of_triple t) → new_bounds ≡ bounds ++ most ∷ [] → AreIndexed new_subjects new → IsKept new new_bounds new_subjects
-kept-push rows new t is_new bounds new_bounds subjects new_subjects place most kept adds h at room is_most is_bounds indexed =
-    let grown : new ≡ rows ++ t ∷ [] = new_rows rows new t is_new adds h in
+pub kept-push : (rows new : List Triple) (t : Triple) (bounds new_bounds : List ℕ) (subjects new_subjects : Subjects) (late new_late : Late) (place most : ℕ)
+    → IsKept rows bounds subjects late → new ≡ rows ++ t ∷ [] → place ≡ length rows → place ≢ MOST_ROWS
+    → most ≡ max (blanks_of rows) (blanks_of_triple t) → new_bounds ≡ bounds ++ most ∷ [] → AreIndexed new_subjects new → AreLate new_late new → IsKept new new_bounds new_subjects new_late
+kept-push rows new t bounds new_bounds subjects new_subjects late new_late place most kept grown at room is_most is_bounds indexed later =
     record {
-      few = few_after rows new t is_new place kept.few adds h at room;
+      few = omega (arith, ap length grown, length-append rows (t ∷ []), kept.few, at, room);
       counted = is_bounds ∙ ap (λ l. l ++ most ∷ []) kept.counted ∙ ap (λ n. blanks_so_far 0 rows ++ n ∷ []) is_most ∙ sym (blanks_so_far-push 0 rows t) ∙ ap (blanks_so_far 0) (sym grown);
       indexed = indexed;
+      late = later;
     }
 
 -- after a cut
-pub kept-cut : (rows all new : List Triple) (n : ℕ) (bounds new_bounds : List ℕ) (subjects new_subjects : Subjects)
-    → IsKept rows bounds subjects → n ≤ length rows → all ≡ rows → new ≡ take n rows → new_bounds ≡ take n bounds → AreIndexed new_subjects (take n all)
-    → IsKept new new_bounds new_subjects
-kept-cut rows all new n bounds new_bounds subjects new_subjects kept h same cut is_bounds indexed =
+pub kept-cut : (rows all new : List Triple) (n : ℕ) (bounds new_bounds : List ℕ) (subjects new_subjects : Subjects) (late new_late : Late)
+    → IsKept rows bounds subjects late → n ≤ length rows → all ≡ rows → new ≡ take n rows → new_bounds ≡ take n bounds → AreIndexed new_subjects (take n all) → AreLate new_late (take n rows)
+    → IsKept new new_bounds new_subjects new_late
+kept-cut rows all new n bounds new_bounds subjects new_subjects late new_late kept h same cut is_bounds indexed later =
     let first : take n all ≡ new = ap (take n) same ∙ sym cut in
     record {
       few = omega (arith, ap length cut, length-take n rows, kept.few, h);
       counted = is_bounds ∙ ap (take n) kept.counted ∙ sym (blanks_so_far-take 0 n rows) ∙ ap (blanks_so_far 0) (sym cut);
       indexed = subst (AreIndexed new_subjects) first indexed;
+      late = subst (AreLate new_late) (sym cut) later;
     }
 
 -- one row less of the first ones

@@ -9,3 +9,5 @@ pub mod Links
 pub mod Walk
 pub mod Blanks
 pub mod Kept
+pub mod Firsts
+pub mod Lates

@@ -86,6 +86,14 @@ copy_of_term (Blank n) (Literal b e m) h = absurd h
 copy_of_term (Literal a d l) (Iri b) h = absurd h
 copy_of_term (Literal a d l) (Blank n) h = absurd h
 
+-- a copy of a triple is the triple
+pub copy_of_triple : (a b : Triple) → copies a.s b.s → copies a.p b.p → copies a.o b.o → b ≡ a
+copy_of_triple a b s p o =
+    let same_s : b.s ≡ a.s = copy_of_term a.s b.s s in
+    let same_p : b.p ≡ a.p = copy_of_term a.p b.p p in
+    let same_o : b.o ≡ a.o = copy_of_term a.o b.o o in
+    λ i. record { s = same_s i; p = same_p i; o = same_o i }
+
 -- `==` of terms, and of triples, is these tests
 eq_of_two : (a b : Term) → term_eq.it a b ≡ same_term a b
 eq_of_two (Iri a) (Iri b) = refl
@@ -131,3 +139,13 @@ adds old new t is_new e keys = by is_new (list_any (triple_eq.it t) old) e refl
     by true false p q = ((λ h. true≢false (sym ((contains_is old t).1 h) ∙ q)), keys ∙ ap (λ b. cond b old (old ++ t ∷ [])) q)
     by false true p q = ((contains_is old t).0 q, keys ∙ ap (λ b. cond b old (old ++ t ∷ [])) q)
     by false false p q = absurd (true≢false (sym (p ∙ ap not q)))
+
+-- a triple that is new stands at the end
+pub added : (old new : List Triple) (t : Triple) (is_new : Bool) → Adds old t is_new new → (¬ Contains old t) → new ≡ old ++ t ∷ []
+added old new t true h not_there = h.1
+added old new t false h not_there = absurd (not_there h.0)
+
+-- so does a copy of it
+pub copy_added : (old new : List Triple) (t copy : Triple) (is_new : Bool) → Adds old copy is_new new → (¬ Contains old t) → copy ≡ t → new ≡ old ++ t ∷ []
+copy_added old new t copy is_new h not_there same =
+    added old new copy is_new h (λ there. not_there (subst (Contains old) same there)) ∙ ap (λ u. old ++ u ∷ []) same

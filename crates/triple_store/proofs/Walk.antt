@@ -26,6 +26,13 @@ all_left rows q (Some e) none first =
     let low : IsFirst (is_about_at q rows) e.first = first e refl in
     about_first-drop q rows e.first low.passes ∙ sym (filter-skip q rows zero e.first (omega arith) (λ k above below. low.none_before k below))
 
+-- the chain of a subject has all its rows
+pub own_rows : (subjects : Subjects) (rows all : List Triple) (s : Term) (left : Option Ends) (those : List Triple)
+    → AreIndexed subjects rows → rows ≡ all → left ≡ ends_of subjects s → those ≡ rows_left rows left → those ≡ filter (is_about s) all
+own_rows subjects rows all s left those indexed same is got =
+    let chained = indexed.each s in
+    got ∙ ap (rows_left rows) is ∙ all_left rows s (ends_of subjects s) chained.none chained.first ∙ ap (filter (is_about s)) same
+
 -- what is kept for a subject is a chain
 pub chain_of : (subjects : Subjects) (rows : List Triple) (next : List ℕ) (s : Term) (o : Option Ends) → AreIndexed subjects rows → next ≡ subjects.next.items
     → o ≡ ends_of subjects s → IsChain rows next o

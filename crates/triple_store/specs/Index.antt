@@ -65,9 +65,3 @@ pub record AreIndexed (subjects : Subjects) (rows : List Triple) : Type 0 where
   pub next_as_long : length subjects.next.items ≡ length rows
   pub previous_as_long : length subjects.previous.items ≡ length rows
   pub each : (q : Term) → AreChained subjects.next.items subjects.previous.items (ends_of subjects q) (is_about_at q rows)
-
--- what is kept fits the rows
-pub record IsKept (rows : List Triple) (blanks : List ℕ) (subjects : Subjects) : Type 0 where
-  pub few : length rows ≤ MOST_ROWS
-  pub counted : blanks ≡ blanks_so_far 0 rows
-  pub indexed : AreIndexed subjects rows

@@ -1,5 +1,9 @@
 pub mod Candidates
 pub mod Chain
+pub mod Compared
+pub mod Found
 pub mod Hashed
 pub mod Index
+pub mod Kept
+pub mod Late
 pub mod Triples

@@ -34,7 +34,7 @@ impl<'a> Chain<'a> {
         Chain { rows, next, left }
     }
 
-    fn next(&mut self) -> Option<&'a Triple>
+    pub(crate) fn next(&mut self) -> Option<&'a Triple>
         ensures { MatchOption result ((self.old ≡ []) × (self.new ≡ [])) (λ row. self.old ≡ row.now ∷ self.new) }
     {
         let ends = self.left?;

@@ -2,7 +2,9 @@
 #![tactic(auto)]
 
 mod candidates;
+mod compared;
 mod fault;
+mod late;
 mod matching;
 mod store;
 mod subjects;

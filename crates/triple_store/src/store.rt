@@ -1,43 +1,56 @@
-ghost use Rattle.std.specs.Prelude.{◌≡◌, ◌↔◌, ◌≤◌, ◌-◌, ◌^◌, ◌∷◌, ◌++◌, [], take, length, filter, Contains, IsTrue, IfOk, OnOk, OnErr, IsErrOf, Ok, false};
+ghost use Rattle.std.specs.Prelude.{◌≡◌, ◌↔◌, ◌≤◌, ◌-◌, ◌^◌, ◌∷◌, ◌++◌, [], take, length, filter, Contains, IfOk, OnOk, OnErr, IsErrOf, Ok, false};
 ghost use Rattle.std.specs.Option.{option_copied};
 ghost use Rattle.triple_store.specs.Triples.{blanks_of, blanks_of_triple, Adds, agrees};
+ghost use Rattle.triple_store.specs.Found.{IsFoundAs};
 ghost use Rattle.triple_store.specs.Index.{AreIndexed};
+ghost use Rattle.triple_store.specs.Late.{AreLate, EndsInNew};
 ghost use Rattle.triple_store.specs.declared.fault.TheConstants.{MOST_ROWS};
 
 use crate::candidates::{Candidates, Chain};
+use crate::compared::{Compared, compare};
+use crate::late::Late;
 use crate::subjects::Subjects;
 use crate::{MOST_ROWS, Matching, StoreFault, Term, Triple, term};
-use indexmap::IndexSet;
 use lv_base::NoMemory;
 use seeded_hash::SeededHash;
 use std::alloc::Global;
 use std::marker::Model;
 
-type Rows = IndexSet<Triple, SeededHash>;
-
 /// A set of triples in the order in which they were added. Contracts see it as the list of its rows.
 ///
-/// Rows and subjects are looked up by hashes: SipHash-1-3, whose key is a seed of 128 bits. The answers don't depend on
-/// this seed, the time does. Whoever knows it can write triples whose hashes agree, and each is compared with all that agree with
+/// A triple is looked for among the rows of its subject: the first 16 are compared with it one by one, and the further ones are looked
+/// up by a hash. Subjects are looked up by hashes too: SipHash-1-3, whose key is a seed of 128 bits. The answers don't depend on
+/// this seed, the time does. Whoever knows it can write terms whose hashes agree, and each is compared with all that agree with
 /// it, so that n of them take time in n². A program that reads strangers' files takes a random seed, by `with_seed`.
 #[derive(Drop)]
 pub struct Store {
-    rows: Rows,
+    rows: Vec<Triple>,
     // At each row, one above the greatest blank number up to it.
     blanks: Vec<u32>,
     subjects: Subjects,
+    late: Late,
+}
+
+/// What a look for a triple tells.
+#[derive(Clone, Copy)]
+pub enum Found {
+    There,
+    Missing {
+        /// So many rows have its subject that it would be a late one.
+        late: bool,
+    },
 }
 
 impl Model for Store {
     ghost use Rattle.std.specs.Prelude.{List};
-    ghost use Rattle.triple_store.specs.Index.{IsKept};
+    ghost use Rattle.triple_store.specs.Kept.{IsKept};
     ghost use Rattle.triple_store.specs.declared.term.Triple.{Triple};
 
     ghost Value = { List Triple };
 
-    ghost view = { λ store. store.rows.keys };
+    ghost view = { λ store. store.rows.items };
 
-    ghost invariant = { λ store. IsKept store.rows.keys store.blanks.items store.subjects };
+    ghost invariant = { λ store. IsKept store.rows.items store.blanks.items store.subjects store.late };
 }
 
 impl Store {
@@ -54,9 +67,10 @@ impl Store {
     {
         let hashing = SeededHash::new(seed);
         Store {
-            rows: IndexSet::with_hasher(alloc, hashing),
+            rows: Vec::new(alloc),
             blanks: Vec::new(alloc),
             subjects: Subjects::new(alloc, hashing),
+            late: Late::new(alloc, hashing),
         }
     }
 
@@ -84,11 +98,12 @@ impl Store {
 
     /// How it hashes, for tables that are filled beside it from the same source.
     pub fn hashing(&self) -> SeededHash {
-        *self.rows.hasher()
+        self.late.hashing()
     }
 
-    /// Adds a triple at the end where it is new, and answers whether it was. Blank numbers are below 2^31. It hashes the triple
-    /// once, and its subject at most once, where the triple is new; the time doesn't grow with the rows.
+    /// Adds a triple at the end where it is new, and answers whether it was. Blank numbers are below 2^31. The triple
+    /// is hashed only where 16 rows have its subject, and its subject mostly where it isn't that of the row before; the time doesn't
+    /// grow with the rows.
     ///
     /// `Full` comes exactly where the triple is new and there are `MOST_ROWS` rows. A refusal leaves all as before.
     pub fn add(&mut self, triple: Triple) -> Result<bool, StoreFault>
@@ -98,24 +113,42 @@ impl Store {
         ensures full { IsErrOf result StoreFault.Full ↔ ((length self.old ≡ MOST_ROWS) × (¬ Contains self.old triple)) }
         ensures err { OnErr result (self.new ≡ self.old) }
     {
+        let Found::Missing { late } = self.found(&triple) else {
+            return Ok(false);
+        };
         let place = self.rows.len();
         if place == MOST_ROWS {
-            return if has(&self.rows, triple) {
-                Ok(false)
-            } else {
-                Err(StoreFault::Full)
-            };
+            return Err(StoreFault::Full);
         }
         let blanks = self.blanks().max(term::blanks_of(&triple));
-        if !insert(&mut self.rows, triple)? {
-            return Ok(false);
-        }
+        push(&mut self.rows, triple)?;
         let rows = self.rows.as_slice();
-        if let Err(NoMemory) = keep(&mut self.blanks, &mut self.subjects, rows, blanks) {
+        if let Err(NoMemory) = keep(
+            &mut self.blanks,
+            &mut self.subjects,
+            &mut self.late,
+            rows,
+            blanks,
+            late,
+        ) {
             self.rows.truncate(place);
             return Err(StoreFault::NoMemory);
         }
         Ok(true)
+    }
+
+    // Looks for a triple.
+    fn found(&self, triple: &Triple) -> Found
+        ensures { IsFoundAs self.now triple.now result }
+    {
+        let left = self.subjects.ends(&triple.s);
+        let chain = Chain::new(self.rows.as_slice(), self.subjects.next.as_slice(), left);
+        match compare(chain, triple) {
+            Compared::There => Found::There,
+            Compared::Missing => Found::Missing { late: false },
+            Compared::Undecided if self.late.has(triple) => Found::There,
+            Compared::Undecided => Found::Missing { late: true },
+        }
     }
 
     /// The rows that agree with the subject, the predicate and the object that are given, in the order in which they were added.
@@ -145,41 +178,50 @@ impl Store {
         ensures { self.new ≡ take rows self.old }
     {
         drop_from(&mut self.subjects, self.rows.as_slice(), rows);
+        self.late.cut(rows);
         self.rows.truncate(rows);
         self.blanks.truncate(rows);
     }
 }
 
-fn has(rows: &Rows, triple: Triple) -> bool
-    ensures { IsTrue result ↔ Contains rows.now.keys triple }
+fn push(rows: &mut Vec<Triple>, triple: Triple) -> Result<(), NoMemory>
+    ensures ok { OnOk result (rows.new.items ≡ rows.old.items ++ triple ∷ []) }
+    ensures err { OnErr result (rows.new.items ≡ rows.old.items) }
 {
-    rows.contains(&triple)
-}
-
-fn insert(rows: &mut Rows, triple: Triple) -> Result<bool, NoMemory>
-    ensures ok { IfOk result (λ is_new. Adds rows.old.keys triple is_new rows.new.keys) }
-    ensures err { OnErr result ((rows.new.keys ≡ rows.old.keys) × (¬ Contains rows.old.keys triple)) }
-{
-    let (_, is_new) = rows.insert_full(triple)?;
-    Ok(is_new)
+    rows.reserve(1)?;
+    rows.push_reserved(triple);
+    Ok(())
 }
 
 // Keeps what belongs to the last of these rows. A refusal leaves all as before.
 fn keep(
     blanks: &mut Vec<u32>,
     subjects: &mut Subjects,
+    late: &mut Late,
     rows: &[Triple],
     most: u32,
+    is_late: bool,
 ) -> Result<(), NoMemory>
     requires few { length rows.now ≤ MOST_ROWS }
     requires indexed { AreIndexed subjects.old (take (length rows.now - 1) rows.now) }
+    requires late { AreLate late.old (take (length rows.now - 1) rows.now) }
+    requires new { EndsInNew rows.now is_late }
     ensures blanks { OnOk result (blanks.new.items ≡ blanks.old.items ++ most ∷ []) }
     ensures subjects { OnOk result (AreIndexed subjects.new rows.now) }
+    ensures late { OnOk result (AreLate late.new rows.now) }
     ensures same_blanks { OnErr result (blanks.new.items ≡ blanks.old.items) }
     ensures same_subjects { OnErr result (AreIndexed subjects.new (take (length rows.now - 1) rows.now)) }
+    ensures same_late { OnErr result (AreLate late.new (take (length rows.now - 1) rows.now)) }
 {
+    let Some((row, front)) = rows.split_last() else {
+        return Err(NoMemory);
+    };
     blanks.reserve(1)?;
-    subjects.add(rows)?;
+    late.add(row, is_late)?;
+    if let Err(NoMemory) = subjects.add(rows) {
+        late.cut(front.len());
+        return Err(NoMemory);
+    }
     blanks.push_reserved(most);
     Ok(())
 }

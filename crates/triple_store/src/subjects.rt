@@ -171,6 +171,14 @@ impl Subjects {
     pub(crate) fn ends(&self, subject: &Term) -> Option<Ends>
         ensures { result ≡ ends_of self.now subject.now }
     {
-        self.ends.get(subject).copied()
+        match self.recent.place_of(&self.ends, subject) {
+            Some(at) => {
+                // `len` is called for its clause that no two keys are equal.
+                let _count = self.ends.len();
+                let (_, ends) = self.ends.get_index(at)?;
+                Some(*ends)
+            }
+            None => self.ends.get(subject).copied(),
+        }
     }
 }

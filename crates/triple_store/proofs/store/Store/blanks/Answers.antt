@@ -7,4 +7,4 @@ pub returns : goal.returns
 returns c =
     c.unwrap_or.ensures ∙ ap (λ o. unwrap_or o 0) (c.copied.ensures ∙ c.last.ensures.value)
     ∙ ap (λ l. unwrap_or (slice_get l (length l - 1)) 0) c.deref.ensures.value
-    ∙ blanks_of-last c.self.inside.rows.keys c.self.inside.blanks.items c.self.invariant.counted ∙ ap blanks_of c.self.view_is
+    ∙ blanks_of-last c.self.inside.rows.items c.self.inside.blanks.items c.self.invariant.counted ∙ ap blanks_of c.self.view_is
