@@ -4,6 +4,7 @@ ghost use Rattle.turtle_document.specs.Machine as document;
 use crate::kinds::begins_object;
 use crate::lexeme::Lexeme;
 use crate::reader::Reader;
+use crate::recent::Recurs;
 use crate::token_fault::TokenFault;
 use lv_base::NoMemory;
 use triple_store::Term;
@@ -112,7 +113,7 @@ impl Reader {
         match token.kind {
             TokenKind::OpenSquare | TokenKind::OpenRound => self.may_open(token.at),
             _ => {
-                self.environment.iri_of(token, true)?;
+                self.environment.iri_of(token, Recurs::Often)?;
                 Ok(())
             }
         }

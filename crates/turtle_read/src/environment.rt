@@ -7,7 +7,7 @@ ghost use Rattle.turtle_read.specs.Recents.{AreKnown};
 
 use crate::lexeme::Lexeme;
 use crate::name::Name;
-use crate::recent::Recent;
+use crate::recent::{Recent, Recurs};
 use crate::token_fault::TokenFault;
 use indexmap::IndexMap;
 use iri_resolve::{IriFault, resolve};
@@ -204,8 +204,8 @@ impl Environment {
 
     #[inline(always)]
     #[tactic(auto, unfolding(crate::specs::States::kept_of))]
-    /// The IRI that a token names, `None` where it is no name. It is kept for the next time, if such names come `again`.
-    pub fn iri_of(&mut self, token: Lexeme<'_>, again: bool) -> Result<Option<Text>, TokenFault>
+    /// The IRI that a token names, `None` where it is no name. It is kept for the next time, if such names come often.
+    pub fn iri_of(&mut self, token: Lexeme<'_>, recurs: Recurs) -> Result<Option<Text>, TokenFault>
         ensures value { Gives (λ iri. iri) result (moves.named token.entry.kind (leaf_of token.entry) (state_of self.old)) }
         ensures state { state_of self.new ≡ state_of self.old }
         ensures kept { kept_of self.new ≡ kept_of self.old }
@@ -216,7 +216,7 @@ impl Environment {
         let Some(iri) = self.named(token)? else {
             return Ok(None);
         };
-        if !again {
+        if recurs == Recurs::Seldom {
             return Ok(Some(iri));
         }
         self.recent.keep(self.alloc, token, iri.clone()?)?;

@@ -1,6 +1,7 @@
 use crate::kinds::quotes_of;
 use crate::lexeme::Lexeme;
 use crate::reader::Reader;
+use crate::recent::Recurs;
 use crate::token_fault::TokenFault;
 use triple_store::Term;
 use turtle_document::{Chain, Expected, Hole};
@@ -51,17 +52,16 @@ impl Reader {
 
     // The first token of an IRI or a blank node.
     #[inline(always)]
-    pub(crate) fn begin_resource(
-        &mut self,
-        token: Lexeme<'_>,
-        hole: Hole,
-    ) -> Result<(), TokenFault>
+    pub(crate) fn begin_resource(&mut self, token: Lexeme<'_>, hole: Hole) -> Result<(), TokenFault>
         ensures moves { Follows token.entry.at result (config_of self.new) (inside self.new) (machine.begin_resource token.entry.kind hole (leaf_of token.entry) self.old.outer (inside self.old)) }
         ensures kept { kept self.new ≡ kept self.old }
     {
         // A statement's subject is mostly a new one.
-        let again = !matches!(hole, Hole::Subject);
-        match self.environment.iri_of(token, again)? {
+        let recurs = match hole {
+            Hole::Subject => Recurs::Seldom,
+            _ => Recurs::Often,
+        };
+        match self.environment.iri_of(token, recurs)? {
             Some(iri) => self.fill(hole, token.at, Term::Iri(iri)),
             None => self.begin_node(token, hole),
         }

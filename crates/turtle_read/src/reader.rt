@@ -97,11 +97,7 @@ impl Reader {
 
     // A token where no string waits for what follows it.
     #[inline(always)]
-    pub(crate) fn plain_step(
-        &mut self,
-        token: Lexeme<'_>,
-        next: Expected,
-    ) -> Result<(), TokenFault>
+    pub(crate) fn plain_step(&mut self, token: Lexeme<'_>, next: Expected) -> Result<(), TokenFault>
         ensures moves { Follows token.entry.at result (config_of self.new) (inside self.new) (machine.plain_move next self.old.outer token.entry.kind (leaf_of token.entry) (inside self.old)) }
         ensures kept { kept self.new ≡ kept self.old }
     {

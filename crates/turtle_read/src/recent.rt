@@ -2,11 +2,18 @@ ghost use Rattle.std.specs.Prelude.{◌≡◌, ◌⊎◌, IfSome, Contains, Some
 ghost use Rattle.turtle_read.specs.Recents.{HoldNothing};
 
 use crate::lexeme::Lexeme;
-use crate::slot::{SLOTS, slot_of};
+use crate::slot::{empty_slots, slot_of};
 use lv_base::{NoMemory, Text};
 use std::alloc::Global;
 use std::marker::Model;
 use turtle_grammar::TokenKind;
+
+/// Whether such names mostly come again.
+#[derive(Clone, Copy, Debug, PartialEq, Eq)]
+pub enum Recurs {
+    Often,
+    Seldom,
+}
 
 /// A name, as its token writes it, and its IRI.
 #[derive(Drop)]
@@ -37,10 +44,7 @@ impl Recent {
     pub fn new(alloc: Global) -> Result<Self, NoMemory>
         ensures { IfOk result HoldNothing }
     {
-        let mut slots = Vec::with_capacity(alloc, SLOTS)?;
-        for _ in 0..SLOTS {
-            slots.push(None)?;
-        }
+        let slots = empty_slots(alloc)?;
         Ok(Recent { slots })
     }
 

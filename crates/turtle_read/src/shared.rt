@@ -1,6 +1,6 @@
 ghost use Rattle.std.specs.Prelude.{◌≡◌, IfOk, IfSome};
 
-use crate::slot::{SLOTS, slot_of};
+use crate::slot::{empty_slots, slot_of};
 use lv_base::{NoMemory, Text};
 use std::alloc::Global;
 
@@ -13,10 +13,7 @@ pub struct SharedTexts {
 impl SharedTexts {
     /// Without a text.
     pub fn new(alloc: Global) -> Result<Self, NoMemory> {
-        let mut slots = Vec::with_capacity(alloc, SLOTS)?;
-        for _ in 0..SLOTS {
-            slots.push(None)?;
-        }
+        let slots = empty_slots(alloc)?;
         Ok(SharedTexts { slots })
     }
 

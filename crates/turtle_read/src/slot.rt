@@ -1,5 +1,21 @@
-/// How many slots a table of what came lately has.
-pub const SLOTS: usize = 512;
+ghost use Rattle.std.specs.Prelude.{◌≡◌, All, None, IfOk};
+
+use lv_base::NoMemory;
+use std::alloc::Global;
+
+// How many slots a table of what came lately has.
+const SLOTS: usize = 512;
+
+/// The slots of a table that holds nothing.
+pub fn empty_slots<T: Drop>(alloc: Global) -> Result<Vec<Option<T>>, NoMemory>
+    ensures { IfOk result (λ slots. All (λ slot. slot ≡ None) slots.items) }
+{
+    let mut slots = Vec::with_capacity(alloc, SLOTS)?;
+    for _ in 0..SLOTS {
+        slots.push(None)?;
+    }
+    Ok(slots)
+}
 
 /// The slot of a text. Texts differ mostly at their ends.
 #[inline(always)]

@@ -1,6 +1,7 @@
 use crate::kinds::begins_object;
 use crate::lexeme::Lexeme;
 use crate::reader::Reader;
+use crate::recent::Recurs;
 use crate::token_fault::TokenFault;
 use lv_base::Text;
 use turtle_document::{Expected, Hole};
@@ -89,7 +90,7 @@ impl Reader {
         ensures moves { Follows token.entry.at result (config_of self.new) (inside self.new) (machine.typed_by token.entry.kind (leaf_of token.entry) text hole self.old.outer (inside self.old)) }
         ensures kept { kept self.new ≡ kept self.old }
     {
-        match self.environment.iri_of(token, true)? {
+        match self.environment.iri_of(token, Recurs::Often)? {
             Some(datatype) => {
                 let term = self.words.typed(text, datatype)?;
                 self.fill(hole, token.at, term)

@@ -1,5 +1,6 @@
 use crate::lexeme::Lexeme;
 use crate::reader::Reader;
+use crate::recent::Recurs;
 use crate::token_fault::TokenFault;
 use triple_store::Term;
 use turtle_document::{Expected, Hole};
@@ -17,7 +18,7 @@ impl Reader {
         ensures moves { Follows token.entry.at result (config_of self.new) (inside self.new) (machine.at_verb token.entry.kind (leaf_of token.entry) subject self.old.outer (inside self.old)) }
         ensures kept { kept self.new ≡ kept self.old }
     {
-        match self.environment.iri_of(token, true)? {
+        match self.environment.iri_of(token, Recurs::Often)? {
             Some(iri) => {
                 self.expect(Expected::Object {
                     subject,
