@@ -1,5 +1,6 @@
 ghost use Rattle.std.specs.Prelude.{◌≡◌, ◌≤◌, [], length, Some, None, IfSome, false};
 ghost use Rattle.lv_outside.specs.Files.{ReadGives};
+ghost use Rattle.lv_outside.specs.Counts.{no_counts};
 
 use crate::counts::{Counts, count};
 use crate::{Fetch, Put, Vault};
@@ -24,7 +25,9 @@ pub struct DirVault<R> {
 
 impl<R: Files + RandomSource> DirVault<R> {
     /// The files that this runtime reaches, with a seed that the system gives.
-    pub fn new(rt: R) -> Self {
+    pub fn new(rt: R) -> Self
+        ensures { result.counts ≡ no_counts }
+    {
         let seed = seed_of(&rt);
         DirVault {
             rt,
