@@ -134,12 +134,17 @@ fn read_all<F: Read>(file: &mut F, most: u64, into: &mut Bytes) -> Fetch
     Fetch::Failed
 }
 
-/// Makes these bytes the file, and waits until the system has taken them, since a close reports nothing.
+/// Makes these bytes the file.
 fn store<R: Files>(rt: &R, path: &[u8], bytes: &[u8]) -> io::Result<()> {
     let Ok(path) = str::from_utf8(path) else {
         return Err(io::Error::from(ErrorKind::InvalidInput));
     };
     let mut file = File::create(rt, path)?;
+    write_synced(&mut file, bytes)
+}
+
+/// Writes these bytes, and waits until the system has taken them, since a close reports nothing.
+fn write_synced<F: Write + OpenFile>(file: &mut F, bytes: &[u8]) -> io::Result<()> {
     file.write_all(bytes)?;
     file.flush()?;
     match file.sync_data() {
