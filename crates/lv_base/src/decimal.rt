@@ -7,7 +7,7 @@ ghost use Rattle.lv_base.specs.Leading.{capped, digits_kept, leading};
 use crate::Fixed;
 
 /// Why a text has no number of type `Fixed`.
-#[derive(Clone, Copy, Debug, PartialEq, Eq)]
+#[derive(Clone, Copy)]
 pub enum NumFault {
     /// The text isn't a whole INTEGER, DECIMAL or DOUBLE of Turtle 1.1.
     NotNumber,

@@ -13,6 +13,3 @@ pub use memory::NoMemory;
 pub use number::{Fixed, Sample, gain, mix, pcm16, to_sample};
 pub use sqlite_items::Items;
 pub use text::{Text, TextFault};
-
-#[cfg(test)]
-mod tests;

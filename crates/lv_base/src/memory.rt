@@ -3,7 +3,7 @@ use std::error::Error;
 use std::fmt;
 
 /// Memory was refused. What the call was given is as before, unless the call says otherwise.
-#[derive(Clone, Copy, Debug, PartialEq, Eq, Hash)]
+#[derive(Clone, Copy, Debug, PartialEq, Eq)]
 pub struct NoMemory;
 
 impl fmt::Display for NoMemory {

@@ -3,11 +3,11 @@ ghost use Rattle.std.specs.Int.{w16, w32, saturate_signed, int_shr};
 ghost use Rattle.lv_base.specs.Number.{sample_of, gained, mix_of, pcm_of};
 
 /// A control value: a count of 2^-24 parts, so 1.0 is `1 << 24`.
-#[derive(Clone, Copy, Debug, Default, PartialEq, Eq, PartialOrd, Ord, Hash)]
+#[derive(Clone, Copy, Debug, PartialEq, Eq)]
 pub struct Fixed(pub i64);
 
 /// A sample of audio: a count of 2^-24 parts. Full scale, 1.0, is `1 << 24`, and there is headroom up to 128.
-#[derive(Clone, Copy, Debug, Default, PartialEq, Eq, PartialOrd, Ord, Hash)]
+#[derive(Clone, Copy, Debug, PartialEq, Eq)]
 pub struct Sample(pub i32);
 
 /// The sample nearest to a control value.

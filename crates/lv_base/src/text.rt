@@ -32,7 +32,7 @@ impl Model for Text {
 }
 
 /// Why bytes make no `Text`.
-#[derive(Clone, Copy, Debug, PartialEq, Eq)]
+#[derive(Clone, Copy)]
 pub enum TextFault {
     /// The bytes aren't UTF-8 from this place on, the first byte of the first bad sequence.
     NotUtf8(usize),

@@ -1,5 +1,5 @@
 /// What a read of a file answers.
-#[derive(Clone, Copy, Debug, PartialEq, Eq)]
+#[derive(Clone, Copy, PartialEq, Eq)]
 pub enum Fetch {
     /// All its bytes.
     Got,
@@ -14,7 +14,7 @@ pub enum Fetch {
 }
 
 /// What a write of a file, or of bytes to a sink, answers.
-#[derive(Clone, Copy, Debug, PartialEq, Eq)]
+#[derive(Clone, Copy, PartialEq, Eq)]
 pub enum Put {
     /// All bytes are written.
     Done,

@@ -5,7 +5,7 @@ ghost use Rattle.lv_outside.specs.Counts.{counted};
 use crate::Fetch;
 
 /// What a vault counts. Each count stands still at 2^64 - 1.
-#[derive(Clone, Copy, Debug, Default)]
+#[derive(Clone, Copy, Default)]
 pub struct Counts {
     /// How often the outside failed.
     pub faults: u64,

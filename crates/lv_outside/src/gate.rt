@@ -1,5 +1,5 @@
 /// A place in a running thread at which a gate may hold it.
-#[derive(Clone, Copy, Debug, PartialEq, Eq)]
+#[derive(Clone, Copy)]
 pub enum Point {
     /// Before the audio thread plays this block, from 0.
     BlockBefore(u32),
@@ -19,7 +19,7 @@ pub trait Gate {
 }
 
 /// A gate that holds nobody.
-#[derive(Clone, Copy, Debug, Default)]
+#[derive(Clone, Copy)]
 pub struct OpenGate;
 
 impl Gate for OpenGate {

@@ -21,6 +21,3 @@ pub use memory_vault::MemVault;
 pub use output::OutSink;
 pub use sink::Sink;
 pub use vault::Vault;
-
-#[cfg(test)]
-mod tests;

@@ -11,7 +11,7 @@ use std::alloc::Global;
 use std::marker::Model;
 
 /// Files in memory, with calls that fail where they are told to.
-#[derive(Debug, Drop)]
+#[derive(Drop)]
 pub struct MemVault {
     alloc: Global,
     files: Items<(Bytes, Bytes)>,
@@ -158,5 +158,9 @@ impl Vault for MemVault {
         }
         count(&mut self.counts, Fetch::Failed);
         Put::Failed
+    }
+
+    fn seed(&self) -> u128 {
+        0
     }
 }

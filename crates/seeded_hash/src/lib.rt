@@ -36,6 +36,3 @@ impl BuildHasher for SeededHash {
         self.seeded
     }
 }
-
-#[cfg(test)]
-mod tests;

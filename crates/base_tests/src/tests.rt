@@ -1,0 +1,6 @@
+mod hashes;
+mod numbers;
+mod samples;
+mod sinks;
+mod texts;
+mod vaults;
