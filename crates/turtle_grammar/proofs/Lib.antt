@@ -1,3 +1,4 @@
 pub mod Derivatives
 pub mod Examples
 pub mod OneAnswer
+pub mod Spans

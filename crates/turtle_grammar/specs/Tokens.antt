@@ -65,14 +65,14 @@ pub data Answer : Type 0 where
   is_unclosed : ℕ → Answer
   is_bad : ℕ → Answer
 
--- what is found behind a gap, in places
+-- what is found after a gap, in places
 abbrev pub IsAnswer : List ℕ → ℕ → Answer → Type 0
 IsAnswer text at (next t) = (n : ℕ) × Finds text (token t.kind n) × (t.at ≡ at) × (t.upto ≡ at + bytes_of (take n text))
 IsAnswer text at end = text ≡ []
 IsAnswer text at (is_unclosed place) = Finds text unclosed × (place ≡ at)
 IsAnswer text at (is_bad place) = (i : ℕ) × Finds text (bad i) × (i < length text) × (place ≡ at + bytes_of (take i text))
 
--- What comes next in the characters that stand from the byte `at` on, behind the longest gap.
+-- What comes next in the characters that stand from the byte `at` on, after the longest gap.
 abbrev pub IsNext : List ℕ → ℕ → Answer → Type 0
 IsNext text at answer = (n : ℕ) × IsLongest gap text n × IsAnswer (drop n text) (at + bytes_of (take n text)) answer
 
