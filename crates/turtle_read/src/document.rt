@@ -47,10 +47,10 @@ fn read_text(alloc: Global, base: &Text, text: &str, store: &mut Store) -> Resul
     requires { is_some (scheme_of base.now) ≡ true }
     ensures { ReadsDocument (beginning base.now store.old) text.now result store.new }
 {
-    let words = Vocabulary::new(alloc)?;
+    let base = base.clone()?;
     let shorts = SharedTexts::new(alloc)?;
     let recent = Recent::new(alloc)?;
-    let base = base.clone()?;
+    let words = Vocabulary::new(alloc)?;
     let before = store.count();
     let hashing = store.hashing();
     let taken = mem::replace(store, Store::new(alloc));

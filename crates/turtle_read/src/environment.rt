@@ -14,6 +14,7 @@ use iri_resolve::{IriFault, resolve};
 use lv_base::{NoMemory, Text};
 use seeded_hash::SeededHash;
 use std::alloc::Global;
+use std::mem;
 use triple_store::{MOST_ROWS, Store, StoreFault, Term, Triple};
 use turtle_grammar::TokenKind;
 
@@ -240,7 +241,21 @@ impl Environment {
     pub fn into_store(self) -> Store
         ensures { result ≡ (state_of self).rows }
     {
-        self.store
+        let Environment {
+            alloc: _,
+            base,
+            prefixes,
+            labels,
+            blanks: _,
+            store,
+            before: _,
+            recent,
+        } = self;
+        mem::drop(base);
+        mem::drop(prefixes);
+        mem::drop(labels);
+        mem::drop(recent);
+        store
     }
 
     #[tactic(auto, unfolding(crate::specs::States::kept_of))]
@@ -248,8 +263,21 @@ impl Environment {
     pub fn into_old_store(self) -> Store
         ensures { result ≡ kept_of self }
     {
-        let mut store = self.store;
-        store.cut(self.before);
+        let Environment {
+            alloc: _,
+            base,
+            prefixes,
+            labels,
+            blanks: _,
+            mut store,
+            before,
+            recent,
+        } = self;
+        mem::drop(base);
+        mem::drop(prefixes);
+        mem::drop(labels);
+        mem::drop(recent);
+        store.cut(before);
         store
     }
 }
