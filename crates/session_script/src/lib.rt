@@ -3,8 +3,8 @@
 
 mod draft;
 mod fault;
-pub mod first_path;
 mod keyword;
+mod later;
 mod limits;
 mod numbers;
 mod reader;
@@ -16,6 +16,7 @@ mod statement;
 mod words;
 
 pub use fault::{Limit, ScriptFault, ScriptRule};
+pub use later::first_later;
 pub use reader::{one_answer, read};
 pub use session::{Action, CableLine, Deed, Inst, OutLine, Session, SetLine};
 
