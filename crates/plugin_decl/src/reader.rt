@@ -1,4 +1,4 @@
-ghost use Rattle.std.specs.Prelude.{◌≡◌, ◌≤◌, ℕ, List, length, map, IfOk, IfErr, OnOk};
+ghost use Rattle.std.specs.Prelude.{◌≡◌, ◌≤◌, ◌⊎◌, ℕ, List, length, map, IfOk, IfErr, OnOk};
 ghost use Rattle.triple_store.specs.declared.term.Term.{Term};
 ghost use Rattle.triple_store.specs.declared.term.Term.TheVariants.{Iri};
 ghost use Rattle.triple_store.specs.declared.term.Triple.{Triple};
@@ -44,10 +44,15 @@ pub fn declare(alloc: Global, store: &Store, uri: &Text, block: u32) -> Result<D
     plugin.declare(alloc, uri)
 }
 
-/// A law, and no step of a program: the triples of a URI have one answer.
+/// A law, and no step of a program: the triples of a URI have at most one answer.
 pub fn one_answer()
     ensures fault { (rows : List Triple) (plugin : Term) (block : ℕ) (a b : DeclFault) → IsFirstBroken rows plugin block a → IsFirstBroken rows plugin block b → a ≡ b }
     ensures not_both { (rows : List Triple) (plugin : Term) (block : ℕ) (fault : DeclFault) → AreAllKept rows plugin block → ¬ IsFirstBroken rows plugin block fault }
+{}
+
+/// A law, and no step of a program: the triples of a URI have an answer.
+pub fn some_answer()
+    ensures { (rows : List Triple) (plugin : Term) (block : ℕ) → AreAllKept rows plugin block ⊎ ((fault : DeclFault) × IsFirstBroken rows plugin block fault) }
 {}
 
 fn iri_of(uri: &Text) -> Result<Term, NoMemory>
