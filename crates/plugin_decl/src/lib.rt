@@ -19,6 +19,3 @@ pub use declaration::{Decl, DeclFault, Port, PortKind};
 pub use message_ports::{patch_port, reply_port};
 pub use options::{Options, options_of};
 pub use reader::{declare, one_answer, some_answer};
-
-#[cfg(test)]
-mod tests;
