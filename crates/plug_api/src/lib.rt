@@ -16,6 +16,3 @@ pub use ins::Ins;
 pub use outs::Outs;
 pub use ports::Ports;
 pub use stock::StockPorts;
-
-#[cfg(test)]
-mod tests;

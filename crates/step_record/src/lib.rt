@@ -6,8 +6,6 @@ mod call;
 mod entry;
 mod record;
 mod ring;
-#[cfg(test)]
-mod tests;
 mod text;
 
 pub use actor::Actor;
