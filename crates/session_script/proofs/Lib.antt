@@ -2,6 +2,7 @@ pub mod Adding
 pub mod Blanks
 pub mod Bounds
 pub mod Cuts
+pub mod Existence
 pub mod Finds
 pub mod Forms
 pub mod Laws

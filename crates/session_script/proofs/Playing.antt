@@ -1,7 +1,6 @@
 -- A session whose every line can be played keeps what the program can play.
-use Rattle.std.proofs.Common.{◌≡◌, ℕ, ◌+◌, ◌<◌, ◌≤◌, Bool, true, false, not, Option, Some, None, List, [], ◌∷◌, length, get_or, refl, sym, ap, subst, ◌∙◌, inl, inr, arith}
-use Rattle.std.specs.Prelude.{IfSome, ◌&&◌, ◌||◌, nat_lt, nat_le, is_none, slice_get, unwrap_or}
-use Rattle.std.specs.Option.{option_map}
+use Rattle.std.proofs.Common.{◌≡◌, ℕ, ◌+◌, ◌<◌, ◌≤◌, Bool, true, false, not, Option, Some, None, List, [], ◌∷◌, length, get_or, refl, sym, subst, inl, inr, arith}
+use Rattle.std.specs.Prelude.{IfSome, ◌&&◌, ◌||◌, nat_lt, is_none, slice_get, unwrap_or, codes}
 use Rattle.std.specs.List.{All, filter_map, cons_option, enumerate_from, position, position_or_len}
 use Rattle.std.specs.Str.{bytes_eq}
 use Rattle.std.proofs.lemmas.List.Elements.{All-nil, All-cons, All-head, All-tail, All-from_get_or}
@@ -11,9 +10,9 @@ use borrow.Author.Tests.{ltb-true, leb-true}
 use Rattle.session_script.specs.declared.session.Inst.{Inst}
 use Rattle.session_script.specs.declared.session.CableLine.{CableLine}
 use Rattle.session_script.specs.declared.session.Session.{Session}
-use Rattle.session_script.specs.declared.keyword.Setting.TheVariants.{Rate, Block, Blocks, Workers, Cells, Record}
-use Rattle.session_script.specs.Draft.{given, blocks_in, inst_in, cable_in, numbered, insts_of}
-use Rattle.session_script.specs.Later.{is_playable, is_out, is_in, leads_on, uri_at, first_later}
+use Rattle.session_script.specs.declared.keyword.Setting.TheVariants.{Blocks}
+use Rattle.session_script.specs.Draft.{given, blocks_in, inst_in, cable_in, insts_of}
+use Rattle.session_script.specs.Later.{is_playable, leads_on, stands_behind, uri_at, first_later}
 use Rattle.session_script.specs.Line.{Line, lines_of}
 use Rattle.session_script.specs.Line.Line.{skipped, setting, inst, cable}
 use Rattle.session_script.specs.Places.{place}
@@ -64,8 +63,9 @@ Rises one = one.source < one.target
 
 rising_line : (insts : List Inst) (n : ℕ) (line : Line) → Plays insts line → IfSome (cable_in insts (n, line)) Rises
 rising_line insts n (cable source output target input delayed) h =
-    let on = (both (is_none delayed && is_out output && is_in input) (leads_on insts source target) h).1 in
-    ltb-true (place insts source) (place insts target) (both (nat_lt (place insts source) (place insts target)) (bytes_eq (uri_at insts (place insts target)) amp_uri) on).0
+    let on = (both (is_none delayed) (leads_on insts source output target input) h).1 in
+    let behind = (both (bytes_eq output (codes "out") && bytes_eq input (codes "in")) (stands_behind insts source target) on).1 in
+    ltb-true (place insts source) (place insts target) (both (nat_lt (place insts source) (place insts target)) (bytes_eq (uri_at insts (place insts target)) amp_uri) behind).0
 rising_line insts n line h = tt
 
 abbrev AreFew : ℕ → Type 0

@@ -57,7 +57,7 @@ fn is_playable(insts: &[Inst], statement: Statement<'_>) -> bool
         Statement::Inst(_, uri, worker) => worker.is_none() && is_stock_uri(uri),
         Statement::Set(name, symbol, _) => symbol == control_of(uri_at(insts, place(insts, name))),
         Statement::Cable(source, output, target, input, delayed) => {
-            delayed.is_none() && output == "out" && input == "in" && leads_on(insts, source, target)
+            delayed.is_none() && leads_on(insts, source, output, target, input)
         }
         Statement::Out(_, symbol) => symbol == "out",
         _ => false,
@@ -80,8 +80,16 @@ fn is_stock_uri(uri: &str) -> bool
     uri == CONST_URI || uri == AMP_URI
 }
 
-fn leads_on(insts: &[Inst], source: &str, target: &str) -> bool
-    ensures { result ≡ spec.leads_on insts.now source.now target.now }
+/// Whether an `out` leads to the `in` of an amplifier that stands behind it.
+fn leads_on(insts: &[Inst], source: &str, output: &str, target: &str, input: &str) -> bool
+    ensures { result ≡ spec.leads_on insts.now source.now output.now target.now input.now }
+{
+    output == "out" && input == "in" && stands_behind(insts, source, target)
+}
+
+/// Whether the target is an amplifier that stands behind the source.
+fn stands_behind(insts: &[Inst], source: &str, target: &str) -> bool
+    ensures { result ≡ spec.stands_behind insts.now source.now target.now }
 {
     let target = place(insts, target);
     place(insts, source) < target && uri_at(insts, target) == AMP_URI

@@ -17,7 +17,7 @@ mod words;
 
 pub use fault::{Limit, ScriptFault, ScriptRule};
 pub use later::first_later;
-pub use reader::{one_answer, read};
+pub use reader::{one_answer, read, some_answer};
 pub use session::{Action, CableLine, Deed, Inst, OutLine, Session, SetLine};
 
 #[cfg(test)]

@@ -4,7 +4,7 @@ ghost use Rattle.session_script.specs.declared.fault.ScriptFault.TheVariants as 
 ghost use Rattle.session_script.specs.declared.fault.ScriptRule.{ScriptRule};
 ghost use Rattle.session_script.specs.declared.fault.Limit.{Limit};
 ghost use Rattle.session_script.specs.Line.{line_of, lines_of};
-ghost use Rattle.session_script.specs.Script.{IsSessionOf, IsFirstBroken, IsPast};
+ghost use Rattle.session_script.specs.Script.{IsSessionOf, IsFirstBroken, IsPast, HasAnswer};
 ghost use Rattle.session_script.specs.Answer.{Refuses, Finishes, IsFaultOrNoMemory, IsSessionOrNoMemory, ReadsLines, ReadsText};
 ghost use Rattle.session_script.specs.Limits.{AreInBounds};
 ghost use Rattle.session_script.specs.Script as spec;
@@ -54,6 +54,11 @@ pub fn one_answer()
     ensures no_line { (script : List ℕ) (session : Session) (n : ℕ) (r : ScriptRule) → IsSessionOf script session → ¬ IsFirstBroken script n r }
     ensures no_limit { (script : List ℕ) (session : Session) (w : Limit) (n : ℕ) → IsSessionOf script session → ¬ IsPast script w n }
     ensures line_first { (script : List ℕ) (m : ℕ) (r : ScriptRule) (w : Limit) (n : ℕ) → IsFirstBroken script m r → ¬ IsPast script w n }
+{}
+
+/// A law, and no step of a program: every script has an answer.
+pub fn some_answer()
+    ensures { (script : List ℕ) → HasAnswer script }
 {}
 
 /// How many lines end in these bytes.
