@@ -1,5 +1,5 @@
 -- What a line that begins with a blank says without it.
-use Rattle.std.proofs.Common.{◌≡◌, ℕ, ◌<◌, true, Some, List, [], ◌∷◌, drop, get_or, sym, length, arith}
+use Rattle.std.proofs.Common.{◌≡◌, ℕ, ◌<◌, true, Some, List, [], ◌∷◌, drop, sym, arith}
 use Rattle.std.specs.Prelude.{slice_get, IsUtf8}
 use Rattle.std.specs.Str.{IsCharBoundary}
 use Rattle.std.proofs.lemmas.Bool.Decides.{nat_tests}

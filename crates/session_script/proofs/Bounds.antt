@@ -1,6 +1,6 @@
 -- What the words of a line that breaks no rule keep within.
-use Rattle.std.proofs.Common.{◌≡◌, ℕ, ◌+◌, ◌<◌, ◌≤◌, ◌^◌, Bool, true, false, cond, not, Option, Some, None, List, [], ◌∷◌, length, refl, sym, ap, ◌∙◌, arith}
-use Rattle.std.specs.Prelude.{IfSome, IsTrue, nat_le, nat_lt, ◌&&◌, ◌||◌, codes, unwrap_or}
+use Rattle.std.proofs.Common.{◌≡◌, ℕ, ◌<◌, ◌≤◌, ◌^◌, Bool, true, false, cond, not, Option, Some, None, List, [], ◌∷◌, length, refl, sym, ap, ◌∙◌, arith}
+use Rattle.std.specs.Prelude.{IfSome, nat_le, nat_lt, ◌&&◌, ◌||◌, codes, unwrap_or}
 use Rattle.std.specs.Option.{option_or}
 use Rattle.std.specs.List.{list_all}
 use Rattle.std.specs.Str.{bytes_eq}
@@ -16,9 +16,9 @@ use Rattle.session_script.specs.Words.{value_of}
 use Rattle.session_script.specs.Sorts.{fits_i32, fits_fixed}
 use Rattle.session_script.specs.Places.{place, is_there}
 use Rattle.session_script.specs.Line.{Line, Act}
-use Rattle.session_script.specs.Line.Act.{set_value, patch_set, patch_get, save, restore}
+use Rattle.session_script.specs.Line.Act.{patch_set, restore}
 use Rattle.session_script.specs.Line.Line.{setting, inst, at}
-use Rattle.session_script.specs.Limits.{least, most, standing, workers_or_default, blocks_or_default, AreInBounds}
+use Rattle.session_script.specs.Limits.{least, most, workers_or_default, blocks_or_default, AreInBounds}
 use Rattle.session_script.specs.Rules.{broken_rule, is_limited, decimals_in, integers_in, block_reached}
 use Rattle.session_script.specs.Step.{with_number, with_setting}
 use Rattle.session_script.specs.Judged.{IsActWell, IsWorkerWell}

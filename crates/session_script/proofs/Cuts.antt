@@ -5,7 +5,7 @@ use Rattle.std.specs.Option.{unwrap_or}
 use Rattle.std.specs.Str.{IsCharBoundary}
 use Rattle.std.proofs.lemmas.Bool.Decides.{leb_tells, nat_tests}
 use Rattle.std.proofs.lemmas.Bool.{cases_lt}
-use Rattle.std.proofs.lemmas.List.{drop_more, drop_all, take_all, take_rest, length-take-le}
+use Rattle.std.proofs.lemmas.List.{drop_more, drop_all, take_all, length-take-le}
 use Rattle.std.proofs.lemmas.List.Elements.{All-from_get_or}
 use Rattle.std.proofs.lemmas.List.Splits.{slice_split-cons_yes, slice_split_first, slice_split_none}
 use Rattle.std.proofs.lemmas.List.Sums.{prefix_len_passes, prefix_len_stops, prefix_len-le-length}
@@ -49,21 +49,15 @@ words-word line h =
     ∙ ap (λ w. w ∷ words []) (sym (take_all n line l)) ∙ ap (λ rest. take n line ∷ words rest) (sym (drop_all n line l)))
     (cases_lt n (length line))
 
--- the same, as the code cuts the line
-pub words-cut : (line : List ℕ) (n : ℕ) → n ≡ position_or_len is_blank line → 0 < position_or_len is_blank line → words line ≡ take n line ∷ words (take (length line - n) (drop n line))
-words-cut line n e h =
-    let k = position_or_len is_blank line in
-    let P : ℕ → Type 0 = λ m. words line ≡ take m line ∷ words (take (length line - m) (drop m line)) in
-    subst P (sym e) (words-word line h ∙ ap (λ rest. take k line ∷ words rest) (sym (take_rest line k)))
-
--- the first blank, or the length
-pub word_len : (line : List ℕ) → unwrap_or (position is_blank line) (length line) ≡ position_or_len is_blank line
-word_len line =
-    let within : position_or_len is_blank line ≤ length line = prefix_len-le-length (λ byte. not (is_blank byte)) line in
+-- the first that passes, or the length
+pub or_length : {X : Type 0} (p : X → Bool) (xs : List X) → unwrap_or (position p xs) (length xs) ≡ position_or_len p xs
+or_length p xs =
+    let n : ℕ = position_or_len p xs in
+    let within : n ≤ length xs = prefix_len-le-length (λ x. not (p x)) xs in
     ⊎_elim
-    (λ t. ap (λ b. unwrap_or (cond b (Some (position_or_len is_blank line)) None) (length line)) t.0)
-    (λ t. let same : length line ≡ position_or_len is_blank line = omega (arith, t.1) in ap (λ b. unwrap_or (cond b (Some (position_or_len is_blank line)) None) (length line)) t.0 ∙ same)
-    (leb_tells (suc (position_or_len is_blank line)) (length line))
+    (λ t. ap (λ b. unwrap_or (cond b (Some n) None) (length xs)) t.0)
+    (λ t. let same : length xs ≡ n = omega (arith, t.1) in ap (λ b. unwrap_or (cond b (Some n) None) (length xs)) t.0 ∙ same)
+    (leb_tells (suc n) (length xs))
 
 pub within_line : (line : List ℕ) → position_or_len is_blank line ≤ length line
 within_line line = prefix_len-le-length (λ byte. not (is_blank byte)) line

@@ -4,7 +4,6 @@ use Rattle.std.specs.Prelude.{◌&&◌}
 use Rattle.std.specs.List.{find}
 use Rattle.std.proofs.lemmas.Bool.{false≢true}
 use Rattle.session_script.specs.declared.draft.Draft.{Draft}
-use Rattle.session_script.specs.declared.fault.ScriptRule.{ScriptRule}
 use Rattle.session_script.specs.declared.fault.ScriptRule.TheVariants.{Head, Order, Range, Same, Unknown, Iri, Name, Block, Form}
 use Rattle.session_script.specs.Line.{Line}
 use Rattle.session_script.specs.Rules.{breaks, broken_rule, table}

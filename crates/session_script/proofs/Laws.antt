@@ -1,5 +1,5 @@
 -- A script has one answer.
-use Rattle.std.proofs.Common.{◌≡◌, ℕ, ◌-◌, ◌≤◌, List, ◌⊎◌, Option, Some, None, refl, sym, ap, ◌∙◌, ⊎_elim, inl, inr, arith, Result, Ok, Err}
+use Rattle.std.proofs.Common.{◌≡◌, ℕ, ◌-◌, ◌≤◌, List, ◌⊎◌, Some, None, refl, sym, ap, ◌∙◌, ⊎_elim, inl, inr, arith, Result, Ok, Err}
 use Rattle.std.specs.Prelude.{IsUtf8}
 use Rattle.std.proofs.lemmas.Bool.{cases_lt}
 use Rattle.session_script.specs.declared.session.Session.{Session}
@@ -10,7 +10,7 @@ use Rattle.session_script.specs.declared.fault.ScriptFault.TheVariants.{Bad, Lim
 use Rattle.session_script.specs.Answer.{ReadsText, IsFaultOrNoMemory}
 use Rattle.session_script.specs.Line.{Line, lines_of}
 use Rattle.session_script.specs.Limits.{passed}
-use Rattle.session_script.specs.Script.{AreWell, IsWhole, IsSessionOf, IsFirstIn, IsBlank, IsFirstBroken, IsPast, rule_at, session_of}
+use Rattle.session_script.specs.Script.{AreWell, IsWhole, IsSessionOf, IsFirstIn, IsBlank, IsFirstBroken, IsPast, rule_at}
 
 some-none : {X : Type 0} (x : X) → Some x ≡ None → ⊥
 some-none x e = cc

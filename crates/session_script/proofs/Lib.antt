@@ -2,11 +2,12 @@ pub mod Adding
 pub mod Blanks
 pub mod Bounds
 pub mod Cuts
+pub mod Existence
 pub mod Finds
-pub mod FirstPath
 pub mod Forms
 pub mod Laws
 pub mod Numerals
+pub mod Playing
 pub mod Reading
 pub mod Rosters
 pub mod Segments

@@ -1,14 +1,11 @@
 -- What the reader's loop keeps: the draft is what the lines before say, and none of them breaks a rule.
-use Rattle.std.proofs.Common.{◌≡◌, ℕ, ◌+◌, ◌-◌, ◌<◌, ◌≤◌, true, false, Option, Some, None, List, [], ◌∷◌, ◌++◌, length, take, drop, get_or, refl, sym, ap, subst, ◌∙◌, arith, cond, add-zero, Result, Ok, Err}
+use Rattle.std.proofs.Common.{◌≡◌, ℕ, ◌+◌, ◌-◌, ◌<◌, ◌≤◌, true, false, Option, Some, None, List, [], ◌∷◌, length, take, drop, get_or, refl, sym, ap, subst, ◌∙◌, arith, cond, add-zero, Result, Ok, Err}
 use Rattle.std.specs.Prelude.{IsErrAnd, IfOk, ◌==◌}
-use Rattle.std.specs.List.{slice_split}
+use Rattle.std.specs.List.{slice_split, onto_first}
 use Rattle.std.specs.Str.Lines.{lines, lines_of_parts}
 use Rattle.std.proofs.lemmas.Iterator.{YieldsList}
 use Rattle.std.proofs.lemmas.List.{take_all, take_more, get_or-map, get_or-drop, length-map, length-take-le, length_push}
-use Rattle.std.proofs.lemmas.List.Splits.{length-slice_split}
-use Rattle.std.proofs.lemmas.List.Sums.{count_by-le-length}
 use borrow.Author.Count.{below_more}
-use Rattle.session_script.specs.declared.session.Inst.{Inst}
 use Rattle.session_script.specs.declared.draft.Draft.{Draft}
 use Rattle.session_script.specs.declared.fault.ScriptRule.{ScriptRule}
 use Rattle.session_script.specs.declared.fault.ScriptFault.{ScriptFault}
@@ -100,16 +97,26 @@ pub yields_none : {S A B : Type 0} (steps : S → Option A → S → Type 0) (v 
 yields_none steps v s t [] y h = refl
 yields_none steps v s t (z ∷ ys) y h = absurd (y.runs.0 t h)
 
-length-lines_of_parts : (parts : List (List ℕ)) → length (lines_of_parts parts) ≤ length parts
-length-lines_of_parts [] = omega arith
-length-lines_of_parts (x ∷ []) = elim (length x == 0) as (λ b. length (cond b [] (x ∷ [])) ≤ 1) [ true ↦ omega arith | false ↦ omega arith ]
-length-lines_of_parts (x ∷ y ∷ more) = omega (arith, length-lines_of_parts (y ∷ more))
+-- a byte that ends no line makes at most the first line
+first_byte : (byte : ℕ) (parts : List (List ℕ)) (n : ℕ) → length (lines_of_parts parts) ≤ n → length (lines_of_parts (onto_first byte parts)) ≤ n + 1
+first_byte byte [] n h = elim (length (byte ∷ []) == 0) as (λ b. length (cond b [] ((byte ∷ []) ∷ [])) ≤ n + 1) [ true ↦ omega arith | false ↦ omega arith ]
+first_byte byte (part ∷ []) n h = elim (length (byte ∷ part) == 0) as (λ b. length (cond b [] ((byte ∷ part) ∷ [])) ≤ n + 1) [ true ↦ omega arith | false ↦ omega arith ]
+first_byte byte (part ∷ next ∷ more) n h = omega arith
 
--- a text has few lines
-pub length-lines : (text : List ℕ) → length (lines text) ≤ length text + 1
-length-lines text =
-    let newline = λ (byte : ℕ). byte == 10 in
-    omega (arith, length-lines_of_parts (slice_split newline text), length-slice_split newline text, count_by-le-length newline text)
+-- a line feed ends one
+line_feed : (parts : List (List ℕ)) (n : ℕ) → length (lines_of_parts parts) ≤ n → length (lines_of_parts ([] ∷ parts)) ≤ n + 1
+line_feed [] n h =
+    let line : List ℕ = [] in
+    elim (length line == 0) as (λ b. length (cond b [] (line ∷ [])) ≤ n + 1) [ true ↦ omega arith | false ↦ omega arith ]
+line_feed (next ∷ more) n h = omega arith
+
+-- a line has a byte at least
+pub length-lines : (text : List ℕ) → length (lines text) ≤ length text
+length-lines [] = omega arith
+length-lines (byte ∷ text) =
+    let parts = slice_split (λ (b : ℕ). b == 10) text in
+    elim (byte == 10) as (λ b. length (lines_of_parts (cond b ([] ∷ parts) (onto_first byte parts))) ≤ length (byte ∷ text))
+    [ true ↦ omega (arith, line_feed parts (length text) (length-lines text)) | false ↦ omega (arith, first_byte byte parts (length text) (length-lines text)) ]
 
 pub length-lines_of : (text : List ℕ) → length (lines_of text) ≡ length (lines text)
 length-lines_of text = length-map (lines text) (λ line. line_of (words line))

@@ -1,5 +1,5 @@
 -- Every session that a script says is valid.
-use Rattle.std.proofs.Common.{◌≡◌, ℕ, zero, suc, ◌+◌, ◌-◌, ◌*◌, ◌^◌, ◌<◌, ◌≤◌, Bool, true, false, cond, not, Option, Some, None, List, [], ◌∷◌, ◌++◌, length, take, get_or, refl, sym, ap, subst, ◌∙◌, ⊎_elim, arith, add-one, Result, Ok, Err}
+use Rattle.std.proofs.Common.{◌≡◌, ℕ, zero, suc, ◌+◌, ◌-◌, ◌*◌, ◌^◌, ◌<◌, ◌≤◌, Bool, true, false, cond, Option, Some, None, List, [], ◌∷◌, ◌++◌, length, take, get_or, refl, sym, ap, subst, ◌∙◌, ⊎_elim, arith, add-one, Result, Ok, Err}
 use Rattle.std.specs.Prelude.{IfOk, IfSome, unwrap_or, ◌&&◌, nat_lt, map, filter, slice_get, codes}
 use Rattle.std.specs.Option.{option_map, option_map_or}
 use Rattle.std.specs.List.{All, find}
@@ -230,7 +230,7 @@ or_between : (low high default : ℕ) (o : Option ℕ) → IfSome o (IsBetween l
 or_between low high default None h l m = (l, m)
 or_between low high default (Some n) h l m = h
 
-mapped_none : {X Y : Type 0} (f : X → Y) (o : Option X) → option_map f o ≡ None → o ≡ None
+pub mapped_none : {X Y : Type 0} (f : X → Y) (o : Option X) → option_map f o ≡ None → o ≡ None
 mapped_none f None h = refl
 mapped_none f (Some x) h = absurd (cc)
 
@@ -271,7 +271,7 @@ valid_from d k h =
     }
 
 -- the session of whole lines is valid
-valid : (ls : List Line) (session : Session) → IsWhole ls → session ≡ session_of ls → passed session ≡ None → IsValid session
+pub valid : (ls : List Line) (session : Session) → IsWhole ls → session ≡ session_of ls → passed session ≡ None → IsValid session
 valid ls session whole value limits =
     let all : Keeps (draft_of ls) = subst Keeps (ap draft_of (take_all (length ls) ls (omega arith))) (keeps ls (length ls) (omega arith) whole.well) in
     subst IsValid (sym value) (valid_from (draft_of ls) all (ap passed (sym value) ∙ limits))

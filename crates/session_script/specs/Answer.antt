@@ -3,9 +3,7 @@ use Rattle.std.specs.Prelude.{◌≡◌, ◌≢◌, ◌⊎◌, ℕ, List, length
 use Rattle.session_script.specs.declared.session.Session.{Session}
 use Rattle.session_script.specs.declared.draft.Draft.{Draft}
 use Rattle.session_script.specs.declared.keyword.Section.TheVariants.{Start}
-use Rattle.session_script.specs.declared.fault.ScriptRule.{ScriptRule}
 use Rattle.session_script.specs.declared.fault.ScriptRule.TheVariants.{Head}
-use Rattle.session_script.specs.declared.fault.Limit.{Limit as Which}
 use Rattle.session_script.specs.declared.fault.ScriptFault.{ScriptFault}
 use Rattle.session_script.specs.declared.fault.ScriptFault.TheVariants.{Bad, Limit, NoMemory}
 use Rattle.session_script.specs.Line.{Line}

@@ -1,5 +1,5 @@
 -- What the lines read so far say together.
-use Rattle.std.specs.Prelude.{ℕ, Bool, nat_le, List, map, fold, slice_get, Option, Some, None, codes, is_some, if◌then◌else◌}
+use Rattle.std.specs.Prelude.{ℕ, nat_le, List, fold, slice_get, Option, Some, None, codes, is_some, if◌then◌else◌}
 use Rattle.std.specs.Option.{option_map}
 use Rattle.std.specs.List.{filter_map, enumerate_from}
 use Rattle.std.specs.Str.{bytes_eq}
@@ -12,7 +12,7 @@ use Rattle.session_script.specs.declared.session.Deed.{Deed}
 use Rattle.session_script.specs.declared.session.Deed.TheVariants.{Set, PatchFixed, PatchInt, PatchGet, Save, Restore}
 use Rattle.session_script.specs.declared.keyword.Setting.TheVariants.{Rate, Block, Blocks, Workers, Cells, Record}
 use Rattle.session_script.specs.declared.keyword.Section.{Section}
-use Rattle.session_script.specs.declared.keyword.Section.TheVariants.{Start, Settings, Bundles, Insts, Sets, Cables, Outs, Actions}
+use Rattle.session_script.specs.declared.keyword.Section.TheVariants.{Start}
 use Rattle.session_script.specs.declared.numbers.Numbers.{Numbers}
 use Rattle.session_script.specs.declared.draft.Draft.{Draft}
 use Rattle.session_script.specs.Words.{value_of}

@@ -1,10 +1,11 @@
 pub mod Answer
 pub mod Draft
-pub mod FirstPath
 pub mod Judged
+pub mod Later
 pub mod Limits
 pub mod Line
 pub mod Places
+pub mod Playable
 pub mod Roster
 pub mod Rules
 pub mod Script
@@ -12,5 +13,6 @@ pub mod Sections
 pub mod Sorts
 pub mod Statement
 pub mod Step
+pub mod Stock
 pub mod Valid
 pub mod Words

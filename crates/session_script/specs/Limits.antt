@@ -5,7 +5,7 @@ use Rattle.std.specs.List.{find}
 use Rattle.session_script.specs.declared.session.Session.{Session}
 use Rattle.session_script.specs.declared.session.Action.{Action}
 use Rattle.session_script.specs.declared.session.Deed.{Deed}
-use Rattle.session_script.specs.declared.session.Deed.TheVariants.{Set, PatchFixed, PatchInt, PatchGet, Save, Restore}
+use Rattle.session_script.specs.declared.session.Deed.TheVariants.{Save}
 use Rattle.session_script.specs.declared.keyword.Setting.{Setting}
 use Rattle.session_script.specs.declared.keyword.Setting.TheVariants.{Rate, Block, Blocks, Workers, Cells, Record}
 use Rattle.session_script.specs.declared.numbers.Numbers.{Numbers}

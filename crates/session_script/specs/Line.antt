@@ -1,5 +1,6 @@
 -- What one line of a session script says by itself: its kind, and its words.
-use Rattle.std.specs.Prelude.{ℕ, Bool, List, [], ◌∷◌, map, codes, Option, Some, None, if◌then◌else◌}
+use Rattle.std.specs.Prelude.{ℕ, List, [], ◌∷◌, map, codes, Option, Some, None, if◌then◌else◌}
+use Rattle.std.specs.Option.{option_map_or}
 use Rattle.std.specs.Str.{bytes_eq}
 use Rattle.std.specs.Str.Lines.{lines}
 use Rattle.session_script.specs.declared.keyword.Setting.{Setting}
@@ -108,23 +109,32 @@ abbrev pub at_of : List (List ℕ) → Line
 at_of (block ∷ action ∷ rest) = act_by block action rest
 at_of _ = miscounted At
 
--- a line that begins with this word, which is no comment, and goes on with these
-abbrev pub line_by : List ℕ → List (List ℕ) → Line
-line_by keyword rest =
+-- the setting that a word names
+abbrev pub setting_named : List ℕ → Option Setting
+setting_named word =
+    if bytes_eq word (codes "rate") then Some Rate
+    else (if bytes_eq word (codes "block") then Some Block
+    else (if bytes_eq word (codes "blocks") then Some Blocks
+    else (if bytes_eq word (codes "workers") then Some Workers
+    else (if bytes_eq word (codes "cells") then Some Cells
+    else (if bytes_eq word (codes "record") then Some Record
+    else None)))))
+
+-- a line that begins with a word which names no setting, and goes on with these
+abbrev pub other_by : List ℕ → List (List ℕ) → Line
+other_by keyword rest =
     if bytes_eq keyword (codes "lv2fx") then header_of rest
-    else (if bytes_eq keyword (codes "rate") then setting_of Rate rest
-    else (if bytes_eq keyword (codes "block") then setting_of Block rest
-    else (if bytes_eq keyword (codes "blocks") then setting_of Blocks rest
-    else (if bytes_eq keyword (codes "workers") then setting_of Workers rest
-    else (if bytes_eq keyword (codes "cells") then setting_of Cells rest
-    else (if bytes_eq keyword (codes "record") then setting_of Record rest
     else (if bytes_eq keyword (codes "bundle") then bundle_of rest
     else (if bytes_eq keyword (codes "inst") then inst_of rest
     else (if bytes_eq keyword (codes "set") then set_of rest
     else (if bytes_eq keyword (codes "cable") then cable_of rest
     else (if bytes_eq keyword (codes "out") then out_of rest
     else (if bytes_eq keyword (codes "at") then at_of rest
-    else unknown))))))))))))
+    else unknown))))))
+
+-- a line that begins with this word, which is no comment, and goes on with these
+abbrev pub line_by : List ℕ → List (List ℕ) → Line
+line_by keyword rest = option_map_or (λ kind. setting_of kind rest) (setting_named keyword) (other_by keyword rest)
 
 abbrev pub line_of : List (List ℕ) → Line
 line_of [] = skipped

@@ -1,6 +1,6 @@
 -- The rules of a line, in the order of their table. A rule looks at one line and at what the lines before it say, and is judged
 -- only where none before it is broken.
-use Rattle.std.specs.Prelude.{ℕ, Bool, true, false, not, ◌&&◌, ◌||◌, ◌==◌, nat_le, nat_lt, List, [], ◌∷◌, length, Option, Some, None, codes, is_some, slice_get, ◌-◌, if◌then◌else◌}
+use Rattle.std.specs.Prelude.{ℕ, Bool, true, false, not, ◌&&◌, ◌||◌, ◌==◌, nat_le, nat_lt, List, [], ◌∷◌, length, Option, Some, codes, is_some, slice_get, ◌-◌, if◌then◌else◌}
 use Rattle.std.specs.Option.{option_map_or}
 use Rattle.std.specs.List.{find, list_all}
 use Rattle.std.specs.Str.{bytes_eq}
@@ -12,8 +12,8 @@ use Rattle.session_script.specs.Words.{is_name, value_of}
 use Rattle.session_script.specs.Sorts.{is_number, is_integer, fits_i32, is_decimal, fits_fixed, is_path, without_slash, is_iri}
 use Rattle.session_script.specs.Sections.{order, section_of, setting_in}
 use Rattle.session_script.specs.Limits.{least, most, standing, workers_or_default, blocks_or_default}
-use Rattle.session_script.specs.Line.{Line, Act}
-use Rattle.session_script.specs.Line.Act.{set_value, patch_set, patch_get, save, restore}
+use Rattle.session_script.specs.Line.{Line}
+use Rattle.session_script.specs.Line.Act.{set_value, patch_set, patch_get, restore}
 use Rattle.session_script.specs.Line.Line.{skipped, header, setting, bundle, inst, set, cable, out, at, miscounted, unknown}
 use Rattle.session_script.specs.Places.{is_there}
 

@@ -93,3 +93,10 @@ pub record IsPast (script : List ℕ) (which : Limit) (number : ℕ) : Type 0 wh
   pub utf8 : IsUtf8 script
   pub whole : IsWhole (lines_of script)
   pub past : passed (session_of (lines_of script)) ≡ Some (which, number)
+
+-- a script says a session, or it has a first broken line, or it passes a limit
+abbrev pub HasAnswer : List ℕ → Type 0
+HasAnswer script =
+    ((session : Session) × IsSessionOf script session)
+    ⊎ (((line : ℕ) × (rule : ScriptRule) × IsFirstBroken script line rule)
+    ⊎ ((which : Limit) × (number : ℕ) × IsPast script which number))

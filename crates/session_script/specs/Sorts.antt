@@ -1,5 +1,5 @@
 -- What the words of a session script may be: numbers, decimals, names, paths and IRIs.
-use Rattle.std.specs.Prelude.{ℕ, ◌-◌, ◌^◌, Bool, true, false, not, ◌&&◌, ◌==◌, nat_eq, nat_le, nat_lt, List, [], length, take, slice_index, codes, is_some, Result, Ok, Err, unwrap_or, ℤ, pos, if◌then◌else◌}
+use Rattle.std.specs.Prelude.{ℕ, ◌-◌, ◌^◌, Bool, true, false, not, ◌&&◌, ◌==◌, nat_eq, nat_le, nat_lt, List, length, take, slice_index, codes, is_some, Result, Ok, Err, unwrap_or, ℤ, pos, if◌then◌else◌}
 use Rattle.std.specs.Char.{is_ascii_digit}
 use Rattle.std.specs.Result.{is_ok, result_ok}
 use Rattle.std.specs.List.{slice_split, list_all, list_any, starts_with}

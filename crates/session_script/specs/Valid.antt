@@ -1,5 +1,5 @@
 -- What every session that was read keeps.
-use Rattle.std.specs.Prelude.{◌≡◌, ℕ, ◌+◌, ◌<◌, ◌≤◌, ◌*◌, ◌^◌, true, All, List, length, filter, slice_index_or, Option, None, Some, IfSome, map}
+use Rattle.std.specs.Prelude.{◌≡◌, ℕ, ◌+◌, ◌<◌, ◌≤◌, ◌*◌, ◌^◌, true, All, List, length, filter, slice_index_or, IfSome, map}
 use Rattle.session_script.specs.declared.session.Session.{Session}
 use Rattle.session_script.specs.declared.session.Inst.{Inst}
 use Rattle.session_script.specs.declared.session.SetLine.{SetLine}
@@ -7,7 +7,7 @@ use Rattle.session_script.specs.declared.session.CableLine.{CableLine}
 use Rattle.session_script.specs.declared.session.OutLine.{OutLine}
 use Rattle.session_script.specs.declared.session.Action.{Action}
 use Rattle.session_script.specs.declared.session.Deed.{Deed}
-use Rattle.session_script.specs.declared.session.Deed.TheVariants.{Set, PatchFixed, PatchInt, PatchGet, Save, Restore}
+use Rattle.session_script.specs.declared.session.Deed.TheVariants.{PatchFixed, PatchInt, PatchGet}
 use Rattle.session_script.specs.Words.{is_name}
 use Rattle.session_script.specs.Sorts.{is_iri}
 use Rattle.session_script.specs.Limits.{is_save}

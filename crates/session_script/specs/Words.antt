@@ -1,5 +1,5 @@
 -- How a line is cut into words, and which words are names and numbers.
-use Rattle.std.specs.Prelude.{ℕ, ◌+◌, ◌-◌, ◌*◌, Bool, not, ◌&&◌, ◌||◌, ◌==◌, nat_eq, nat_le, List, length, slice_index, filter, fold, codes, Option, Some, None, if◌then◌else◌}
+use Rattle.std.specs.Prelude.{ℕ, ◌+◌, ◌-◌, ◌*◌, Bool, not, ◌&&◌, ◌||◌, ◌==◌, nat_eq, nat_le, List, length, slice_index, filter, fold, codes}
 use Rattle.std.specs.Char.{is_ascii_digit}
 use Rattle.std.specs.Int.{is_in_range}
 use Rattle.std.specs.List.{slice_split, list_all, starts_with}
@@ -33,7 +33,3 @@ is_name word = is_word word && is_letter (slice_index word 0) && nat_le (length 
 -- what decimal digits say
 abbrev pub value_of : List ℕ → ℕ
 value_of digits = fold (λ value digit. value * 10 + (digit - 48)) 0 digits
-
--- the number that a word of decimal digits says, if it is within the limits
-abbrev pub number_in : ℕ → ℕ → List ℕ → Option ℕ
-number_in least most word = if is_word word && list_all is_ascii_digit word && is_in_range least most (value_of word) then Some (value_of word) else None

@@ -3,8 +3,8 @@
 
 mod draft;
 mod fault;
-pub mod first_path;
 mod keyword;
+mod later;
 mod limits;
 mod numbers;
 mod reader;
@@ -16,7 +16,8 @@ mod statement;
 mod words;
 
 pub use fault::{Limit, ScriptFault, ScriptRule};
-pub use reader::{one_answer, read};
+pub use later::first_later;
+pub use reader::{one_answer, read, some_answer};
 pub use session::{Action, CableLine, Deed, Inst, OutLine, Session, SetLine};
 
 #[cfg(test)]

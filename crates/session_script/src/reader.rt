@@ -1,10 +1,10 @@
-ghost use Rattle.std.specs.Prelude.{◌≡◌, ◌+◌, ◌<◌, ◌≤◌, ◌==◌, ℕ, List, length, count_by, IfOk, IfErr};
+ghost use Rattle.std.specs.Prelude.{◌≡◌, ◌+◌, ◌<◌, ◌≤◌, ◌^◌, ◌==◌, ℕ, List, length, count_by, IfOk, IfErr};
 ghost use Rattle.session_script.specs.declared.session.Session.{Session};
 ghost use Rattle.session_script.specs.declared.fault.ScriptFault.TheVariants as faults;
 ghost use Rattle.session_script.specs.declared.fault.ScriptRule.{ScriptRule};
 ghost use Rattle.session_script.specs.declared.fault.Limit.{Limit};
 ghost use Rattle.session_script.specs.Line.{line_of, lines_of};
-ghost use Rattle.session_script.specs.Script.{IsSessionOf, IsFirstBroken, IsPast};
+ghost use Rattle.session_script.specs.Script.{IsSessionOf, IsFirstBroken, IsPast, HasAnswer};
 ghost use Rattle.session_script.specs.Answer.{Refuses, Finishes, IsFaultOrNoMemory, IsSessionOrNoMemory, ReadsLines, ReadsText};
 ghost use Rattle.session_script.specs.Limits.{AreInBounds};
 ghost use Rattle.session_script.specs.Script as spec;
@@ -27,7 +27,7 @@ use std::alloc::Global;
 /// other line is `lv2fx 1`. Then the kinds of lines follow in this order: the settings, `bundle`, `inst`, `set`, `cable`,
 /// `out`, `at`. See [`ScriptRule`] for the rules of a line, and [`crate::Limit`] for the limits.
 pub fn read(alloc: Global, bytes: &[u8]) -> Result<Session, ScriptFault>
-    requires { length bytes.now ≤ 16777216 }
+    requires { length bytes.now < 2 ^ 32 }
     ensures ok { IfOk result (IsSessionOf bytes.now) }
     ensures valid { IfOk result IsValid }
     ensures err { IfErr result (Refuses bytes.now) }
@@ -56,18 +56,23 @@ pub fn one_answer()
     ensures line_first { (script : List ℕ) (m : ℕ) (r : ScriptRule) (w : Limit) (n : ℕ) → IsFirstBroken script m r → ¬ IsPast script w n }
 {}
 
+/// A law, and no step of a program: every script has an answer.
+pub fn some_answer()
+    ensures { (script : List ℕ) → HasAnswer script }
+{}
+
 /// How many lines end in these bytes.
 fn lines_in(bytes: &[u8]) -> u32
-    requires { length bytes.now ≤ 16777216 }
+    requires { length bytes.now < 2 ^ 32 }
     ensures value { result ≡ count_by (λ byte. byte == 10) bytes.now }
-    ensures few { result ≤ 16777216 }
+    ensures few { result ≤ length bytes.now }
 {
     bytes.iter().filter(|byte| **byte == b'\n').count() as u32
 }
 
 /// The session that a text says.
 fn read_text(alloc: Global, text: &str) -> Result<Session, ScriptFault>
-    requires { length text.now ≤ 16777216 }
+    requires { length text.now < 2 ^ 32 }
     ensures { ReadsText (lines_of text.now) result }
 {
     let draft = read_lines(alloc, text)?;
@@ -76,7 +81,7 @@ fn read_text(alloc: Global, text: &str) -> Result<Session, ScriptFault>
 
 /// What all lines say together.
 fn read_lines(alloc: Global, text: &str) -> Result<Draft, ScriptFault>
-    requires { length text.now ≤ 16777216 }
+    requires { length text.now < 2 ^ 32 }
     ensures reads { ReadsLines (lines_of text.now) result }
     ensures bounds { IfOk result (λ draft. AreInBounds draft.numbers) }
 {

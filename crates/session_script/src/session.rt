@@ -2,7 +2,7 @@ use lv_base::{Fixed, Items, Text};
 
 /// What a session script says: the instances of plug-ins, how they are set and wired, what is heard, and what is done to
 /// them while they run.
-#[derive(Debug, Drop)]
+#[derive(Drop)]
 pub struct Session {
     /// Frames in a second.
     pub rate: u32,
@@ -29,7 +29,7 @@ pub struct Session {
 }
 
 /// An instance of the plug-in `uri`, and the worker that its line names. Lines count from 1.
-#[derive(Debug, Drop)]
+#[derive(Drop)]
 pub struct Inst {
     pub name: Text,
     pub uri: Text,
@@ -38,7 +38,7 @@ pub struct Inst {
 }
 
 /// A value of a control input before the run.
-#[derive(Debug, Drop)]
+#[derive(Drop)]
 pub struct SetLine {
     pub inst: u32,
     pub symbol: Text,
@@ -47,7 +47,7 @@ pub struct SetLine {
 }
 
 /// A cable from an output of `source` to an input of `target`.
-#[derive(Debug, Drop)]
+#[derive(Drop)]
 pub struct CableLine {
     pub source: u32,
     pub output: Text,
@@ -59,7 +59,7 @@ pub struct CableLine {
 }
 
 /// A channel: what the output `symbol` of an instance gives.
-#[derive(Debug, Drop)]
+#[derive(Drop)]
 pub struct OutLine {
     pub inst: u32,
     pub symbol: Text,
@@ -67,7 +67,7 @@ pub struct OutLine {
 }
 
 /// What is done to an instance once a block is reached.
-#[derive(Debug, Drop)]
+#[derive(Drop)]
 pub struct Action {
     pub block: u32,
     pub inst: u32,
@@ -75,7 +75,7 @@ pub struct Action {
     pub line: u32,
 }
 
-#[derive(Debug, Drop)]
+#[derive(Drop)]
 pub enum Deed {
     /// Sets a control input.
     Set { symbol: Text, value: Fixed },

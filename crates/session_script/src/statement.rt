@@ -51,34 +51,40 @@ pub(crate) fn statement_of(line: &str) -> Statement<'_>
 fn statement_with<'a>(keyword: &str, rest: &'a str) -> Statement<'a>
     ensures { said result ≡ spec.line_by keyword.now (words rest.now) }
 {
-    if keyword == "lv2fx" {
-        header(rest)
-    } else if keyword == "rate" {
-        setting(Setting::Rate, rest)
-    } else if keyword == "block" {
-        setting(Setting::Block, rest)
-    } else if keyword == "blocks" {
-        setting(Setting::Blocks, rest)
-    } else if keyword == "workers" {
-        setting(Setting::Workers, rest)
-    } else if keyword == "cells" {
-        setting(Setting::Cells, rest)
-    } else if keyword == "record" {
-        setting(Setting::Record, rest)
-    } else if keyword == "bundle" {
-        bundle(rest)
-    } else if keyword == "inst" {
-        inst(rest).unwrap_or(Statement::Miscounted(Keyword::Inst))
-    } else if keyword == "set" {
-        set(rest).unwrap_or(Statement::Miscounted(Keyword::Set))
-    } else if keyword == "cable" {
-        cable(rest).unwrap_or(Statement::Miscounted(Keyword::Cable))
-    } else if keyword == "out" {
-        out(rest).unwrap_or(Statement::Miscounted(Keyword::Out))
-    } else if keyword == "at" {
-        at(rest).unwrap_or(Statement::Miscounted(Keyword::At))
-    } else {
-        Statement::Unknown
+    match setting_named(keyword) {
+        Some(kind) => setting(kind, rest),
+        None => other_with(keyword, rest),
+    }
+}
+
+/// The setting that a word names.
+fn setting_named(word: &str) -> Option<Setting>
+    ensures { result ≡ spec.setting_named word.now }
+{
+    match word {
+        "rate" => Some(Setting::Rate),
+        "block" => Some(Setting::Block),
+        "blocks" => Some(Setting::Blocks),
+        "workers" => Some(Setting::Workers),
+        "cells" => Some(Setting::Cells),
+        "record" => Some(Setting::Record),
+        _ => None,
+    }
+}
+
+/// What a line says whose first word names no setting.
+fn other_with<'a>(keyword: &str, rest: &'a str) -> Statement<'a>
+    ensures { said result ≡ spec.other_by keyword.now (words rest.now) }
+{
+    match keyword {
+        "lv2fx" => header(rest),
+        "bundle" => bundle(rest),
+        "inst" => inst(rest).unwrap_or(Statement::Miscounted(Keyword::Inst)),
+        "set" => set(rest).unwrap_or(Statement::Miscounted(Keyword::Set)),
+        "cable" => cable(rest).unwrap_or(Statement::Miscounted(Keyword::Cable)),
+        "out" => out(rest).unwrap_or(Statement::Miscounted(Keyword::Out)),
+        "at" => at(rest).unwrap_or(Statement::Miscounted(Keyword::At)),
+        _ => Statement::Unknown,
     }
 }
 
@@ -161,18 +167,13 @@ fn at(rest: &str) -> Option<Statement<'_>>
 fn act<'a>(block: &'a str, action: &str, rest: &'a str) -> Option<Statement<'a>>
     ensures { said_or (miscounted Keyword.At) result ≡ spec.act_by block.now action.now (words rest.now) }
 {
-    if action == "set" {
-        at_set(block, rest)
-    } else if action == "patch-set" {
-        at_patch_set(block, rest)
-    } else if action == "patch-get" {
-        at_patch_get(block, rest)
-    } else if action == "save" {
-        at_save(block, rest)
-    } else if action == "restore" {
-        at_restore(block, rest)
-    } else {
-        Some(Statement::Unknown)
+    match action {
+        "set" => at_set(block, rest),
+        "patch-set" => at_patch_set(block, rest),
+        "patch-get" => at_patch_get(block, rest),
+        "save" => at_save(block, rest),
+        "restore" => at_restore(block, rest),
+        _ => Some(Statement::Unknown),
     }
 }
 

@@ -1,4 +1,4 @@
-use Rattle.std.proofs.Common.{◌≡◌, Some, sym, ap, subst, true, ◌∙◌, length}
+use Rattle.std.proofs.Common.{◌≡◌, Some, sym, ap, true, ◌∙◌}
 use Rattle.std.specs.Prelude.{slice_get}
 use Rattle.session_script.specs.Words.{is_blank, words}
 use Rattle.session_script.proofs.Blanks.{blank_boundary, blank_words}

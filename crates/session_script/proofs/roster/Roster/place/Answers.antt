@@ -1,4 +1,4 @@
-use Rattle.std.proofs.Common.{◌≡◌, sym, ap, ◌∙◌}
+use Rattle.std.proofs.Common.{sym, ap, ◌∙◌}
 use Rattle.session_script.specs.Places.{place}
 use Rattle.session_script.proofs.Rosters.{place_none}
 use Rattle.session_script.proofs.roster.Roster.place.Goals as goal

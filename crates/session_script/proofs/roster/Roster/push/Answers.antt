@@ -1,4 +1,4 @@
-use Rattle.std.proofs.Common.{◌≡◌, ◌∷◌, ◌++◌, ℕ, List, [], Some, cond, length, sym, ap, subst, ◌∙◌}
+use Rattle.std.proofs.Common.{◌≡◌, Some, cond, length, sym, ap, subst, ◌∙◌}
 use Rattle.std.specs.BTreeMap.{get_by_text}
 use Rattle.std.specs.List.{position}
 use Rattle.std.specs.Str.{bytes_eq}

@@ -1,9 +1,0 @@
-pub mod Answer
-pub mod Draft
-pub mod Fits
-pub mod Line
-pub mod Script
-pub mod Statement
-pub mod Step
-pub mod Stock
-pub mod Valid
