@@ -1,5 +1,6 @@
 -- How a play goes on, and how the parts of a run join.
-use Rattle.std.proofs.Common.{◌≡◌, ℕ, zero, suc, ◌+◌, ◌<◌, List, [], ◌∷◌, ◌++◌, length, map, take, drop, set, get_or, refl, sym, ap, ◌∙◌, slice_get, append_assoc}
+use Rattle.std.proofs.Common.{◌≡◌, ℕ, zero, suc, ◌+◌, ◌<◌, List, [], ◌∷◌, ◌++◌, length, map, take, drop, set, get_or, refl, sym, ap, ◌∙◌, slice_get, append_assoc, Result, Ok, Err}
+use Rattle.std.specs.Prelude.{IfOk}
 use Rattle.std.proofs.lemmas.List.{set_split, append-nil, map-append, length_push, take_more}
 use Rattle.std.proofs.lemmas.List.{get_or-map, drop-drop}
 use Rattle.std.proofs.lemmas.List.Elements.{All-get_or}
@@ -12,13 +13,16 @@ use Rattle.session_script.specs.declared.session.Inst.{Inst}
 use Rattle.session_script.specs.FirstPath.Stock.{IsStockUri}
 use Rattle.session_script.specs.FirstPath.Valid.{IsValid}
 use Rattle.step_record.specs.declared.actor.Actor.TheVariants.{Control}
-use Rattle.step_record.specs.declared.call.Call.TheVariants.{Deactivate, Cleanup}
+use Rattle.step_record.specs.declared.call.Call.TheVariants.{Cleanup}
 use Rattle.step_record.specs.declared.entry.Entry.{Entry}
 use Rattle.step_record.specs.Entry.{last}
-use Rattle.replay_core.specs.PlainRecord.{called, opening, cycle, stopping, record_of}
+use Rattle.replay_core.specs.PlainRecord.{called, before_cleanup, record_of}
 use Rattle.replay_core.specs.declared.run.Run.{Run}
+use Rattle.replay_core.specs.declared.outcome.Outcome.{Outcome}
 use Rattle.replay_core.specs.Each.{each}
 use Rattle.replay_core.specs.Play.{Meaning, Moment, start, put, changed, ran, after_entry, played_from, played, sound_of}
+use Rattle.replay_core.specs.Outcome.{IsOutcome}
+use Rattle.replay_core.specs.Summary.{summary_of}
 use Rattle.replay_core.specs.Run.{moment_of, IsRunning, Plays}
 use Rattle.replay_core.specs.Signals.{uris_of, uri_at, inputs_at}
 use Rattle.replay_core.proofs.EachLemmas.{each-more}
@@ -119,11 +123,6 @@ pub stock-at : (s : Session) (i : ℕ) (inst : Inst) → IsValid s → i < lengt
 stock-at s i inst valid there =
     rw (get_or-map (λ (inst : Inst). inst.uri) s.insts i inst [] there) (All-get_or (λ (inst : Inst). IsStockUri inst.uri) s.insts i inst there valid.stock)
 
--- all entries up to the clean-up
-abbrev pub before_cleanup : Session → List Entry
-before_cleanup s =
-    opening (length s.insts) ++ (each s.blocks (cycle (length s.insts)) ++ (stopping s.blocks ++ each (length s.insts) (called Control Deactivate)))
-
 -- the clean-up, and the end
 abbrev pub cleanup : Session → List Entry
 cleanup s = each (length s.insts) (called Control Cleanup) ++ last ∷ []
@@ -147,3 +146,10 @@ whole-run {F} code uri_of s begun ended steps fresh at_start run count is =
           ∙ sym (ap heard (fold-append (after_entry code s) (start s) (before_cleanup s) (cleanup s)))
           ∙ ap (sound_of code s) (sym all),
     )
+
+-- and gives the outcome of the session
+pub outcome-of : {C F E : Type 0} (code : Meaning F) (uri_of : F → List ℕ) (s : Session) (begun ended : Run C F) (r : Result Outcome E) → begun.steps ≡ [] → moment_of begun ≡ start s → Plays code uri_of s begun ended (before_cleanup s) → length ended.fronts.items ≡ length s.insts → IfOk r (λ (outcome : Outcome). outcome.steps ≡ ended.steps ++ (each (length ended.fronts.items) (called Control Cleanup) ++ last ∷ [])) → IfOk r (λ (outcome : Outcome). outcome.pcm ≡ ended.pcm) → IfOk r (λ (outcome : Outcome). outcome.summary ≡ summary_of s outcome.steps) → IfOk r (IsOutcome code s)
+outcome-of code uri_of s begun ended (Ok outcome) fresh at_start run count steps pcm summary =
+    let whole = whole-run code uri_of s begun ended outcome.steps fresh at_start run count steps in
+    record { steps = whole.0; pcm = pcm ∙ whole.1; summary = summary }
+outcome-of code uri_of s begun ended (Err e) fresh at_start run count steps pcm summary = tt

@@ -28,6 +28,11 @@ abbrev pub stopping : ℕ → List Entry
 stopping blocks =
     stop_of Audio ∷ beat_of (blocks + 1) ∷ send_of Control (ControlToWorker 1) ∷ take_of (Worker 1) (ControlToWorker 1) ∷ stop_of (Worker 1) ∷ join ∷ []
 
+-- all that is done in a run of a session before the clean-up
+abbrev pub before_cleanup : Session → List Entry
+before_cleanup s =
+    opening (length s.insts) ++ (each s.blocks (cycle (length s.insts)) ++ (stopping s.blocks ++ each (length s.insts) (called Control Deactivate)))
+
 -- control deactivates each instance, and then cleans up each
 abbrev pub closing : ℕ → List Entry
 closing insts = each insts (called Control Deactivate) ++ (each insts (called Control Cleanup) ++ (last ∷ []))

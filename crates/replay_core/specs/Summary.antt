@@ -55,17 +55,27 @@ events steps = count_by (λ e. is_event e.kind) steps
 abbrev pub counted : List ℕ → ℕ → List ℕ
 counted name count = name ++ decimal count
 
+-- what became of the jobs of an instance
+abbrev pub jobs_part : ℕ → List Entry → List ℕ
+jobs_part i steps =
+    counted (codes " jobs ") (sent (Jobs i) (LocalJobs i) steps)
+    ++ counted (codes " refused ") (refused (Jobs i) (LocalJobs i) steps)
+    ++ counted (codes " worked ") (ended Work i steps)
+
+-- what became of the responses to it
+abbrev pub responses_part : ℕ → List Entry → List ℕ
+responses_part i steps =
+    counted (codes " responses ") (sent (Responses i) (Responses i) steps)
+    ++ counted (codes " dropped ") (refused (Responses i) (Responses i) steps)
+    ++ counted (codes " delivered ") (ended Response i steps)
+
 -- the line of an instance; none of the codes so far has a `work` that could fail
 abbrev pub inst_line : List ℕ → ℕ → List Entry → List ℕ
 inst_line name i steps =
     codes "inst " ++ name
     ++ counted (codes " runs ") (ended Run i steps)
-    ++ counted (codes " jobs ") (sent (Jobs i) (LocalJobs i) steps)
-    ++ counted (codes " refused ") (refused (Jobs i) (LocalJobs i) steps)
-    ++ counted (codes " worked ") (ended Work i steps)
-    ++ counted (codes " responses ") (sent (Responses i) (Responses i) steps)
-    ++ counted (codes " dropped ") (refused (Responses i) (Responses i) steps)
-    ++ counted (codes " delivered ") (ended Response i steps)
+    ++ jobs_part i steps
+    ++ responses_part i steps
     ++ codes " errors 0\n"
 
 -- the name of instance i

@@ -20,6 +20,3 @@ pub use one_thread::render;
 pub use outcome::Outcome;
 pub use state_text::STATE_TEXT;
 pub use threading::keeps_threading_classes;
-
-#[cfg(test)]
-mod tests;

@@ -1,5 +1,5 @@
 ghost use Rattle.std.specs.Prelude.{◌≡◌, ◌≤◌, ◌<◌, ◌*◌, ◌++◌, ◌^◌, length, IfOk, OnOk};
-ghost use Rattle.replay_core.specs.Summary.{counted, inst_line, inst_lines, size_line, last_lines, summary_of};
+ghost use Rattle.replay_core.specs.Summary.{counted, jobs_part, responses_part, inst_line, inst_lines, size_line, last_lines, summary_of};
 
 use crate::count::{ended, events, refused, sent};
 use itoa::Buffer;
@@ -49,29 +49,30 @@ fn push_inst(text: &mut Bytes, name: &Text, inst: u32, steps: &[Entry]) -> Resul
     push(text, "inst ")?;
     push(text, name.as_str())?;
     push_count(text, " runs ", ended(steps, Call::Run, inst))?;
-    push_count(
-        text,
-        " jobs ",
-        sent(steps, Ring::Jobs(inst), Ring::LocalJobs(inst)),
-    )?;
-    push_count(
-        text,
-        " refused ",
-        refused(steps, Ring::Jobs(inst), Ring::LocalJobs(inst)),
-    )?;
-    push_count(text, " worked ", ended(steps, Call::Work, inst))?;
-    push_count(
-        text,
-        " responses ",
-        sent(steps, Ring::Responses(inst), Ring::Responses(inst)),
-    )?;
-    push_count(
-        text,
-        " dropped ",
-        refused(steps, Ring::Responses(inst), Ring::Responses(inst)),
-    )?;
-    push_count(text, " delivered ", ended(steps, Call::Response, inst))?;
+    push_jobs(text, inst, steps)?;
+    push_responses(text, inst, steps)?;
     push(text, " errors 0\n")
+}
+
+fn push_jobs(text: &mut Bytes, inst: u32, steps: &[Entry]) -> Result<(), NoMemory>
+    requires { inst < 32 }
+    ensures { OnOk result (text.new ≡ text.old ++ jobs_part inst steps.now) }
+{
+    let jobs = Ring::Jobs(inst);
+    let local = Ring::LocalJobs(inst);
+    push_count(text, " jobs ", sent(steps, jobs, local))?;
+    push_count(text, " refused ", refused(steps, jobs, local))?;
+    push_count(text, " worked ", ended(steps, Call::Work, inst))
+}
+
+fn push_responses(text: &mut Bytes, inst: u32, steps: &[Entry]) -> Result<(), NoMemory>
+    requires { inst < 32 }
+    ensures { OnOk result (text.new ≡ text.old ++ responses_part inst steps.now) }
+{
+    let ring = Ring::Responses(inst);
+    push_count(text, " responses ", sent(steps, ring, ring))?;
+    push_count(text, " dropped ", refused(steps, ring, ring))?;
+    push_count(text, " delivered ", ended(steps, Call::Response, inst))
 }
 
 fn push_last(text: &mut Bytes, entries: usize) -> Result<(), NoMemory>

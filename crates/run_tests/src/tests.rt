@@ -1,2 +1,5 @@
 mod ports;
+mod runs;
+mod sessions;
 mod steps;
+mod toy;

@@ -1,7 +1,6 @@
-use lv_base::{Fixed, Sample, Text};
+use lv_base::{Fixed, NoMemory, Sample, Text};
 use plug_api::{Ins, Outs, Ports, StockPorts};
 use std::process::Abort;
-use std::test::Fail;
 
 fn assert_samples<R: Abort>(rt: &R, got: &[Sample], wanted: &[Sample]) {
     assert_eq!(rt; got, wanted);
@@ -12,7 +11,7 @@ fn assert_value<R: Abort>(rt: &R, got: Fixed, wanted: i64) {
 }
 
 #[test]
-fn ports_lend_values(rt: HostRuntime) -> Result<(), Fail> {
+fn ports_lend_values(rt: HostRuntime) -> Result<(), NoMemory> {
     let alloc = rt.alloc();
     let mut outs = Outs::with_room(alloc, 1, 2, 0)?;
     let mut ins = Ins::with_ports(alloc, 3, 2)?;
@@ -24,7 +23,7 @@ fn ports_lend_values(rt: HostRuntime) -> Result<(), Fail> {
 }
 
 #[test]
-fn ports_lend_inputs_and_outputs(rt: HostRuntime) -> Result<(), Fail> {
+fn ports_lend_inputs_and_outputs(rt: HostRuntime) -> Result<(), NoMemory> {
     let alloc = rt.alloc();
     let mut outs = Outs::with_room(alloc, 2, 2, 1)?;
     let mut ins = Ins::with_ports(alloc, 3, 2)?;
@@ -38,7 +37,7 @@ fn ports_lend_inputs_and_outputs(rt: HostRuntime) -> Result<(), Fail> {
 }
 
 #[test]
-fn outputs_are_made_silent(rt: HostRuntime) -> Result<(), Fail> {
+fn outputs_are_made_silent(rt: HostRuntime) -> Result<(), NoMemory> {
     let mut outs = Outs::with_room(rt.alloc(), 2, 2, 1)?;
     outs.block_mut(1).copy_from(&[Sample(5), Sample(-6)]);
     outs.silence();
@@ -48,7 +47,7 @@ fn outputs_are_made_silent(rt: HostRuntime) -> Result<(), Fail> {
 }
 
 #[test]
-fn an_amplifier_has_three_ports(rt: HostRuntime) -> Result<(), Fail> {
+fn an_amplifier_has_three_ports(rt: HostRuntime) -> Result<(), NoMemory> {
     let uri = Text::from_str(rt.alloc(), "urn:lv2fx:amp")?;
     let ports = StockPorts::of(&uri);
     assert_value(&rt, ports.first, 16_777_216);

@@ -1,6 +1,5 @@
 use lv_base::NoMemory;
 use std::process::Abort;
-use std::test::Fail;
 use step_record::{Actor, Call, Entry, Record, Ring, write};
 
 const LINES: &str = "lv2fx-record 1
@@ -81,9 +80,8 @@ pub fn assert_text<R: Abort + AllocGlobal>(
 }
 
 #[test]
-fn every_kind_of_entry_has_its_line(rt: HostRuntime) -> Result<(), Fail> {
+fn every_kind_of_entry_has_its_line(rt: HostRuntime) -> Result<(), NoMemory> {
     let mut steps = Record::new(rt.alloc());
     push_all(&mut steps)?;
-    assert_text(&rt, &steps, LINES)?;
-    Ok(())
+    assert_text(&rt, &steps, LINES)
 }
