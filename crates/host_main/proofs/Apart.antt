@@ -1,7 +1,7 @@
 -- The three paths of a run differ, since their endings do.
 use Rattle.std.proofs.Common.{◌≡◌, ℕ, List, ◌++◌, ap, get_or, arith}
 use Rattle.std.proofs.lemmas.List.{append_cancel_left}
-use Rattle.step_record.specs.declared.entry.Entry.{Entry}
+use Rattle.step_law.specs.declared.entry.Entry.{Entry}
 use Rattle.host_main.specs.Files.{rendering, AreApart}
 
 -- endings with other second letters make other paths

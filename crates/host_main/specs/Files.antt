@@ -1,6 +1,6 @@
 -- The three files of a run: what they hold, and what is left where a write failed.
 use Rattle.std.specs.Prelude.{◌≡◌, ◌≢◌, ℕ, List, Option, Some}
-use Rattle.step_record.specs.declared.entry.Entry.{Entry}
+use Rattle.step_law.specs.declared.entry.Entry.{Entry}
 use Rattle.step_record.specs.RecordText.{record_text}
 use Rattle.replay_core.specs.StateText.{state_text}
 use Rattle.host_main.specs.Status.{name_of}

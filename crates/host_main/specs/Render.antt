@@ -10,7 +10,7 @@ use Rattle.replay_core.specs.PlainRecord.{record_of}
 use Rattle.replay_core.specs.Play.{Meaning, sound_of}
 use Rattle.replay_core.specs.Summary.{summary_of}
 use Rattle.replay_core.specs.Threading.{IsOneAtATime, calls_on, whole_life}
-use Rattle.step_record.specs.declared.entry.Entry.{Entry}
+use Rattle.step_law.specs.declared.entry.Entry.{Entry}
 use Rattle.lv_outside.specs.World.{VaultState, SinkState, LeavesFiles, IsSaid}
 use Rattle.host_main.specs.Files.{rendering, HoldsAll, HoldsBefore}
 use Rattle.host_main.specs.Status.{status_of, line_of, most_session_bytes}

@@ -12,9 +12,9 @@ use Rattle.session_script.specs.declared.session.Session.{Session}
 use Rattle.session_script.specs.declared.session.Inst.{Inst}
 use Rattle.session_script.specs.FirstPath.Stock.{IsStockUri}
 use Rattle.session_script.specs.FirstPath.Valid.{IsValid}
-use Rattle.step_record.specs.declared.actor.Actor.TheVariants.{Control}
-use Rattle.step_record.specs.declared.call.Call.TheVariants.{Cleanup}
-use Rattle.step_record.specs.declared.entry.Entry.{Entry}
+use Rattle.step_law.specs.declared.actor.Actor.TheVariants.{Control}
+use Rattle.step_law.specs.declared.call.Call.TheVariants.{Cleanup}
+use Rattle.step_law.specs.declared.entry.Entry.{Entry}
 use Rattle.step_record.specs.Entry.{last}
 use Rattle.replay_core.specs.PlainRecord.{called, before_cleanup, record_of}
 use Rattle.replay_core.specs.declared.run.Run.{Run}

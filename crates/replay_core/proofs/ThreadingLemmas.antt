@@ -4,11 +4,11 @@ use Rattle.std.specs.List.{cons_option}
 use Rattle.std.proofs.lemmas.List.{append-nil, replicate-append-replicate}
 use Rattle.std.proofs.lemmas.List.Elements.{filter_map-append}
 use Rattle.std.proofs.lemmas.Bool.{ne_eqb, cases_lt}
-use Rattle.step_record.specs.declared.actor.Actor.{Actor}
-use Rattle.step_record.specs.declared.actor.Actor.TheVariants.{Audio, Control}
-use Rattle.step_record.specs.declared.call.Call.{Call}
-use Rattle.step_record.specs.declared.call.Call.TheVariants.{Run, Make, Activate, Deactivate, Cleanup}
-use Rattle.step_record.specs.declared.entry.Entry.{Entry}
+use Rattle.step_law.specs.declared.actor.Actor.{Actor}
+use Rattle.step_law.specs.declared.actor.Actor.TheVariants.{Audio, Control}
+use Rattle.step_law.specs.declared.call.Call.{Call}
+use Rattle.step_law.specs.declared.call.Call.TheVariants.{Run, Make, Activate, Deactivate, Cleanup}
+use Rattle.step_law.specs.declared.entry.Entry.{Entry}
 use Rattle.step_record.specs.Call.{call_at, call_number}
 use Rattle.replay_core.specs.Each.{each}
 use Rattle.replay_core.specs.PlainRecord.{called, opening, cycle, stopping, plain_record}

@@ -1,12 +1,12 @@
 -- The record of a run on one thread: everything in its one order.
 use Rattle.std.specs.Prelude.{ℕ, ◌+◌, List, [], ◌∷◌, ◌++◌, length}
 use Rattle.session_script.specs.declared.session.Session.{Session}
-use Rattle.step_record.specs.declared.actor.Actor.{Actor}
-use Rattle.step_record.specs.declared.actor.Actor.TheVariants.{Audio, Control, Worker}
-use Rattle.step_record.specs.declared.call.Call.{Call}
-use Rattle.step_record.specs.declared.call.Call.TheVariants.{Run, Make, Activate, Deactivate, Cleanup}
-use Rattle.step_record.specs.declared.entry.Entry.{Entry}
-use Rattle.step_record.specs.declared.ring.Ring.TheVariants.{ControlToAudio, ControlToWorker}
+use Rattle.step_law.specs.declared.actor.Actor.{Actor}
+use Rattle.step_law.specs.declared.actor.Actor.TheVariants.{Audio, Control, Worker}
+use Rattle.step_law.specs.declared.call.Call.{Call}
+use Rattle.step_law.specs.declared.call.Call.TheVariants.{Run, Make, Activate, Deactivate, Cleanup}
+use Rattle.step_law.specs.declared.entry.Entry.{Entry}
+use Rattle.step_law.specs.declared.ring.Ring.TheVariants.{ControlToAudio, ControlToWorker}
 use Rattle.step_record.specs.Entry.{block_of, done_of, look_of, take_of, send_of, begin_of, end_of, stop_of, beat_of, join, last}
 use Rattle.replay_core.specs.Each.{each}
 

@@ -2,11 +2,11 @@
 use Rattle.std.specs.Prelude.{ℕ, suc, List, [], ◌∷◌, ◌++◌, length, fold, take, drop, replicate, Option, Some, None, slice_get}
 use Rattle.lv_base.specs.declared.number.Sample.{Sample}
 use Rattle.session_script.specs.declared.session.Session.{Session}
-use Rattle.step_record.specs.declared.call.Call.{Call}
-use Rattle.step_record.specs.declared.call.Call.TheVariants.{Run, Make, Activate, Deactivate}
-use Rattle.step_record.specs.declared.entry.Entry.{Entry}
-use Rattle.step_record.specs.declared.entry.Kind.{Kind}
-use Rattle.step_record.specs.declared.entry.Kind.TheVariants.{Block, Done, End}
+use Rattle.step_law.specs.declared.call.Call.{Call}
+use Rattle.step_law.specs.declared.call.Call.TheVariants.{Run, Make, Activate, Deactivate}
+use Rattle.step_law.specs.declared.entry.Entry.{Entry}
+use Rattle.step_law.specs.declared.entry.Kind.{Kind}
+use Rattle.step_law.specs.declared.entry.Kind.TheVariants.{Block, Done, End}
 use Rattle.step_record.specs.Call.{call_at}
 use Rattle.plug_api.specs.Inputs.{Inputs}
 use Rattle.plug_api.specs.Sound.{silence}

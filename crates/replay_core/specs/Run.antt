@@ -1,7 +1,7 @@
 -- A run under way.
 use Rattle.std.specs.Prelude.{◌≡◌, ℕ, List, ◌++◌, length, map, take}
 use Rattle.session_script.specs.declared.session.Session.{Session}
-use Rattle.step_record.specs.declared.entry.Entry.{Entry}
+use Rattle.step_law.specs.declared.entry.Entry.{Entry}
 use Rattle.replay_core.specs.declared.run.Run.{Run}
 use Rattle.replay_core.specs.Signals.{uris_of}
 use Rattle.replay_core.specs.Play.{Meaning, Moment, played_from}

@@ -2,13 +2,13 @@
 use Rattle.std.specs.Prelude.{ℕ, ◌*◌, ◌==◌, Bool, true, false, ◌&&◌, ◌||◌, List, [], ◌++◌, length, map, count_by, slice_index_or, codes, decimal}
 use Rattle.session_script.specs.declared.session.Session.{Session}
 use Rattle.session_script.specs.declared.session.Inst.{Inst}
-use Rattle.step_record.specs.declared.call.Call.{Call}
-use Rattle.step_record.specs.declared.call.Call.TheVariants.{Run, Response, Work}
-use Rattle.step_record.specs.declared.entry.Entry.{Entry}
-use Rattle.step_record.specs.declared.entry.Kind.{Kind}
-use Rattle.step_record.specs.declared.entry.Kind.TheVariants.{Send, Full, Long, End, Last}
-use Rattle.step_record.specs.declared.ring.Ring.{Ring}
-use Rattle.step_record.specs.declared.ring.Ring.TheVariants.{Jobs, Responses, LocalJobs}
+use Rattle.step_law.specs.declared.call.Call.{Call}
+use Rattle.step_law.specs.declared.call.Call.TheVariants.{Run, Response, Work}
+use Rattle.step_law.specs.declared.entry.Entry.{Entry}
+use Rattle.step_law.specs.declared.entry.Kind.{Kind}
+use Rattle.step_law.specs.declared.entry.Kind.TheVariants.{Send, Full, Long, End, Last}
+use Rattle.step_law.specs.declared.ring.Ring.{Ring}
+use Rattle.step_law.specs.declared.ring.Ring.TheVariants.{Jobs, Responses, LocalJobs}
 use Rattle.step_record.specs.Call.{call_number}
 use Rattle.step_record.specs.Ring.{ring_number}
 use Rattle.replay_core.specs.Each.{each}

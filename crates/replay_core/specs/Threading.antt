@@ -1,11 +1,11 @@
 -- The threading classes (LV2 core, "Threading Classes"), as a record on one thread keeps them.
 use Rattle.std.specs.Prelude.{◌≡◌, ℕ, ◌==◌, Bool, true, false, if◌then◌else◌, List, [], ◌∷◌, ◌++◌, Option, None, filter_map, replicate}
-use Rattle.step_record.specs.declared.actor.Actor.{Actor}
-use Rattle.step_record.specs.declared.call.Call.{Call}
-use Rattle.step_record.specs.declared.call.Call.TheVariants.{Run, Make, Activate, Deactivate, Cleanup}
-use Rattle.step_record.specs.declared.entry.Entry.{Entry}
-use Rattle.step_record.specs.declared.entry.Kind.{Kind}
-use Rattle.step_record.specs.declared.entry.Kind.TheVariants.{Begin, End}
+use Rattle.step_law.specs.declared.actor.Actor.{Actor}
+use Rattle.step_law.specs.declared.call.Call.{Call}
+use Rattle.step_law.specs.declared.call.Call.TheVariants.{Run, Make, Activate, Deactivate, Cleanup}
+use Rattle.step_law.specs.declared.entry.Entry.{Entry}
+use Rattle.step_law.specs.declared.entry.Kind.{Kind}
+use Rattle.step_law.specs.declared.entry.Kind.TheVariants.{Begin, End}
 use Rattle.step_record.specs.Call.{call_at}
 use Rattle.step_record.specs.Entry.{begin_of, end_of}
 

@@ -1,7 +1,7 @@
 ghost use Rattle.std.specs.Prelude.{◌≡◌, ◌<◌, ◌++◌, [], ◌∷◌, length, OnOk};
-ghost use Rattle.step_record.specs.declared.actor.Actor.TheVariants.{Audio};
-ghost use Rattle.step_record.specs.declared.call.Call.TheVariants.{Run as RunCall};
-ghost use Rattle.step_record.specs.declared.ring.Ring.TheVariants.{ControlToAudio};
+ghost use Rattle.step_law.specs.declared.actor.Actor.TheVariants.{Audio};
+ghost use Rattle.step_law.specs.declared.call.Call.TheVariants.{Run as RunCall};
+ghost use Rattle.step_law.specs.declared.ring.Ring.TheVariants.{ControlToAudio};
 ghost use Rattle.step_record.specs.Entry.{block_of, look_of, done_of};
 ghost use Rattle.session_script.specs.FirstPath.Valid.{IsValid};
 ghost use Rattle.replay_core.specs.Each.{each};

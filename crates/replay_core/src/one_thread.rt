@@ -1,6 +1,6 @@
 ghost use Rattle.std.specs.Prelude.{◌≡◌, ◌<◌, ◌≤◌, ◌^◌, ◌*◌, ◌++◌, [], ◌∷◌, length, IfOk, OnOk};
-ghost use Rattle.step_record.specs.declared.actor.Actor.TheVariants.{Control};
-ghost use Rattle.step_record.specs.declared.call.Call.TheVariants.{Cleanup};
+ghost use Rattle.step_law.specs.declared.actor.Actor.TheVariants.{Control};
+ghost use Rattle.step_law.specs.declared.call.Call.TheVariants.{Cleanup};
 ghost use Rattle.step_record.specs.Entry.{last};
 ghost use Rattle.session_script.specs.FirstPath.Valid.{IsValid};
 ghost use Rattle.replay_core.specs.Each.{each};

@@ -1,6 +1,6 @@
 ghost use Rattle.std.specs.Prelude.{◌≡◌, ◌<◌, ◌+◌, ◌^◌, ◌++◌, [], ◌∷◌, length, IfOk, OnOk};
-ghost use Rattle.step_record.specs.declared.actor.Actor.TheVariants.{Control};
-ghost use Rattle.step_record.specs.declared.call.Call.TheVariants.{Make, Activate, Deactivate, Cleanup};
+ghost use Rattle.step_law.specs.declared.actor.Actor.TheVariants.{Control};
+ghost use Rattle.step_law.specs.declared.call.Call.TheVariants.{Make, Activate, Deactivate, Cleanup};
 ghost use Rattle.session_script.specs.FirstPath.Valid.{IsValid};
 ghost use Rattle.replay_core.specs.Each.{each};
 ghost use Rattle.replay_core.specs.PlainRecord.{called, opening, cycle, stopping, closing};

@@ -1,6 +1,6 @@
 ghost use Rattle.std.specs.Prelude.{◌≡◌, ◌<◌, ◌+◌, [], length, drop, IfOk, OnOk};
-ghost use Rattle.step_record.specs.declared.actor.Actor.TheVariants.{Audio, Control};
-ghost use Rattle.step_record.specs.declared.call.Call.TheVariants.{Run as RunCall, Make, Activate, Deactivate};
+ghost use Rattle.step_law.specs.declared.actor.Actor.TheVariants.{Audio, Control};
+ghost use Rattle.step_law.specs.declared.call.Call.TheVariants.{Run as RunCall, Make, Activate, Deactivate};
 ghost use Rattle.session_script.specs.FirstPath.Valid.{IsValid};
 ghost use Rattle.plug_api.specs.Outputs.{block_at};
 ghost use Rattle.plug_api.specs.Sound.{silence};

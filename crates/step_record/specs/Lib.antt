@@ -1,5 +1,5 @@
-pub mod Actor
-pub mod Call
-pub mod Ring
-pub mod Entry
 pub mod RecordText
+pub use Rattle.step_law.specs.Actor
+pub use Rattle.step_law.specs.Call
+pub use Rattle.step_law.specs.Ring
+pub use Rattle.step_law.specs.Entry

@@ -1,12 +1,12 @@
 -- The text of a record, format 1: a line of the format, a line for each entry, and an LF at the end of each line.
 use Rattle.std.specs.Prelude.{ℕ, List, [], ◌++◌, flat_map, Option, Some, None, codes, decimal}
-use Rattle.step_record.specs.declared.call.Call.{Call}
-use Rattle.step_record.specs.declared.entry.Entry.{Entry}
-use Rattle.step_record.specs.declared.entry.Kind.{Kind}
-use Rattle.step_record.specs.declared.entry.Kind.TheVariants.{Block, Look, Take, Send, Full, Long, Done, Stop, Begin, End, Beat, Join, Late, Last}
-use Rattle.step_record.specs.Actor.{actor_at, actor_name}
-use Rattle.step_record.specs.Call.{call_at, call_name}
-use Rattle.step_record.specs.Ring.{ring_at, ring_name}
+use Rattle.step_law.specs.declared.call.Call.{Call}
+use Rattle.step_law.specs.declared.entry.Entry.{Entry}
+use Rattle.step_law.specs.declared.entry.Kind.{Kind}
+use Rattle.step_law.specs.declared.entry.Kind.TheVariants.{Block, Look, Take, Send, Full, Long, Done, Stop, Begin, End, Beat, Join, Late, Last}
+use Rattle.step_law.specs.Actor.{actor_at, actor_name}
+use Rattle.step_law.specs.Call.{call_at, call_name}
+use Rattle.step_law.specs.Ring.{ring_at, ring_name}
 
 -- the name of the ring with a number
 abbrev pub ring_text : ℕ → List ℕ

@@ -13,7 +13,7 @@ pub struct Record {
 
 impl Model for Record {
     ghost use Rattle.std.specs.Prelude.{List};
-    ghost use Rattle.step_record.specs.declared.entry.Entry.{Entry};
+    ghost use Rattle.step_law.specs.declared.entry.Entry.{Entry};
 
     ghost Value = { List Entry };
 

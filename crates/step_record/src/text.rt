@@ -1,6 +1,6 @@
 ghost use Rattle.std.specs.Prelude.{◌≡◌, ◌++◌, OnOk, IfOk, decimal};
-ghost use Rattle.step_record.specs.Actor.{actor_name};
-ghost use Rattle.step_record.specs.Ring.{ring_name};
+ghost use Rattle.step_law.specs.Actor.{actor_name};
+ghost use Rattle.step_law.specs.Ring.{ring_name};
 ghost use Rattle.step_record.specs.RecordText.{record_text, line_of, event_text, ring_text, called_text};
 
 use crate::{Actor, Call, Entry, Kind, Record, Ring};

@@ -1,6 +1,6 @@
 use Rattle.std.proofs.Common.{sym, ap, ◌∙◌, set}
-use Rattle.step_record.specs.declared.actor.Actor.TheVariants.{Control}
-use Rattle.step_record.specs.declared.call.Call.TheVariants.{Deactivate}
+use Rattle.step_law.specs.declared.actor.Actor.TheVariants.{Control}
+use Rattle.step_law.specs.declared.call.Call.TheVariants.{Deactivate}
 use Rattle.step_record.specs.Entry.{begin_of, end_of}
 use Rattle.replay_core.specs.Run.{moment_of}
 use Rattle.replay_core.proofs.RunLemmas.{steps-called, changed-at, uris-set}

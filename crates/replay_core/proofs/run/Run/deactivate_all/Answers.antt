@@ -1,6 +1,6 @@
 use Rattle.std.proofs.Common.{◌∙◌}
-use Rattle.step_record.specs.declared.actor.Actor.TheVariants.{Control}
-use Rattle.step_record.specs.declared.call.Call.TheVariants.{Deactivate}
+use Rattle.step_law.specs.declared.actor.Actor.TheVariants.{Control}
+use Rattle.step_law.specs.declared.call.Call.TheVariants.{Deactivate}
 use Rattle.replay_core.specs.PlainRecord.{called}
 use Rattle.replay_core.proofs.RunLemmas.{Plays-none, Plays-more}
 use Rattle.replay_core.proofs.run.Run.deactivate_all.Goals as goal

@@ -1,5 +1,5 @@
 use Rattle.std.proofs.Common.{ℕ, List, [], ◌∷◌, ap, ◌++◌, ◌∙◌}
-use Rattle.step_record.specs.declared.entry.Entry.{Entry}
+use Rattle.step_law.specs.declared.entry.Entry.{Entry}
 use Rattle.plug_api.specs.Outputs.{Outputs}
 use Rattle.replay_core.specs.Pcm.{block_bytes}
 use Rattle.replay_core.specs.Run.{moment_of}

@@ -1,8 +1,8 @@
 use Rattle.std.proofs.Common.{◌≡◌, ◌<◌, List, [], ◌∷◌, ◌++◌, length, get_or, sym, ap, ◌∙◌, arith}
 use Rattle.std.proofs.lemmas.List.{get_or-map, length-map}
 use Rattle.session_script.specs.declared.session.Inst.{Inst}
-use Rattle.step_record.specs.declared.actor.Actor.TheVariants.{Control}
-use Rattle.step_record.specs.declared.call.Call.TheVariants.{Make}
+use Rattle.step_law.specs.declared.actor.Actor.TheVariants.{Control}
+use Rattle.step_law.specs.declared.call.Call.TheVariants.{Make}
 use Rattle.step_record.specs.Entry.{begin_of, end_of}
 use Rattle.replay_core.specs.Run.{moment_of}
 use Rattle.replay_core.specs.Signals.{uris_of, uri_at}

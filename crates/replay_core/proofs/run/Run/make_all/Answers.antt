@@ -1,6 +1,6 @@
 use Rattle.std.proofs.Common.{length, ap}
-use Rattle.step_record.specs.declared.actor.Actor.TheVariants.{Control}
-use Rattle.step_record.specs.declared.call.Call.TheVariants.{Make}
+use Rattle.step_law.specs.declared.actor.Actor.TheVariants.{Control}
+use Rattle.step_law.specs.declared.call.Call.TheVariants.{Make}
 use Rattle.replay_core.specs.PlainRecord.{called}
 use Rattle.replay_core.proofs.RunLemmas.{Plays-none, Plays-more}
 use Rattle.replay_core.proofs.run.Run.make_all.Goals as goal

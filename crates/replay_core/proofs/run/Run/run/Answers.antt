@@ -1,7 +1,7 @@
 use Rattle.std.proofs.Common.{◌<◌, List, length, sym, ap, ◌∙◌, set, arith}
 use Rattle.lv_base.specs.declared.number.Sample.{Sample}
-use Rattle.step_record.specs.declared.actor.Actor.TheVariants.{Audio}
-use Rattle.step_record.specs.declared.call.Call.TheVariants.{Run}
+use Rattle.step_law.specs.declared.actor.Actor.TheVariants.{Audio}
+use Rattle.step_law.specs.declared.call.Call.TheVariants.{Run}
 use Rattle.step_record.specs.Entry.{begin_of, end_of}
 use Rattle.replay_core.specs.Play.{meaning_of}
 use Rattle.replay_core.specs.Run.{moment_of}

@@ -2,8 +2,8 @@ use Rattle.std.proofs.Common.{[], length, ◌∙◌, arith}
 use Rattle.std.proofs.lemmas.List.{get_or-replicate}
 use Rattle.plug_api.specs.Sound.{silence}
 use Rattle.replay_core.specs.Play.{silent_signals}
-use Rattle.step_record.specs.declared.actor.Actor.TheVariants.{Audio}
-use Rattle.step_record.specs.declared.call.Call.TheVariants.{Run}
+use Rattle.step_law.specs.declared.actor.Actor.TheVariants.{Audio}
+use Rattle.step_law.specs.declared.call.Call.TheVariants.{Run}
 use Rattle.replay_core.specs.PlainRecord.{called}
 use Rattle.replay_core.proofs.RunLemmas.{Plays-none, Plays-more, get_or-same_drop, drop-same_more}
 use Rattle.replay_core.proofs.run.Run.run_all.Goals as goal

@@ -1,6 +1,6 @@
 use Rattle.std.proofs.Common.{◌≡◌, length, drop}
-use Rattle.step_record.specs.declared.actor.Actor.TheVariants.{Audio}
-use Rattle.step_record.specs.declared.call.Call.TheVariants.{Run}
+use Rattle.step_law.specs.declared.actor.Actor.TheVariants.{Audio}
+use Rattle.step_law.specs.declared.call.Call.TheVariants.{Run}
 use Rattle.replay_core.specs.Each.{each}
 use Rattle.replay_core.specs.PlainRecord.{called}
 use Rattle.replay_core.specs.Play.{meaning_of, silent_signals}

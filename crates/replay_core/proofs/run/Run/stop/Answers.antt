@@ -1,6 +1,6 @@
 use Rattle.std.proofs.Common.{◌+◌, refl}
-use Rattle.step_record.specs.declared.actor.Actor.TheVariants.{Audio, Control, Worker}
-use Rattle.step_record.specs.declared.ring.Ring.TheVariants.{ControlToWorker}
+use Rattle.step_law.specs.declared.actor.Actor.TheVariants.{Audio, Control, Worker}
+use Rattle.step_law.specs.declared.ring.Ring.TheVariants.{ControlToWorker}
 use Rattle.step_record.specs.Entry.{stop_of, beat_of, send_of, take_of, join}
 use Rattle.replay_core.proofs.RunLemmas.{six-steps, pushed}
 use Rattle.replay_core.proofs.run.Run.stop.Goals as goal

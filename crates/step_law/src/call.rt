@@ -16,7 +16,7 @@ pub enum Call {
 
 impl Call {
     ghost use Rattle.std.specs.Prelude.{◌≡◌, IfSome};
-    ghost use Rattle.step_record.specs.Call.{call_number, call_at, call_name};
+    ghost use Rattle.step_law.specs.Call.{call_number, call_at, call_name};
 
     /// The number that an entry has for it.
     pub fn number(self) -> u32

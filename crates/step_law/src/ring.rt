@@ -19,7 +19,7 @@ pub enum Ring {
 
 impl Ring {
     ghost use Rattle.std.specs.Prelude.{◌≡◌, ◌<◌, ◌^◌, ◌+◌, ◌*◌};
-    ghost use Rattle.step_record.specs.Ring.{ring_number, ring_at, actor_ring_at, inst_ring_at};
+    ghost use Rattle.step_law.specs.Ring.{ring_number, ring_at, actor_ring_at, inst_ring_at};
 
     /// The number that an entry has for it.
     pub fn number(self) -> u32

@@ -1,7 +1,7 @@
 -- The rings: their numbers and names.
 use Rattle.std.specs.Prelude.{ℕ, zero, suc, ◌+◌, ◌-◌, ◌*◌, ◌/◌, ◌%◌, ◌==◌, nat_lt, if◌then◌else◌, List, ◌++◌, codes, decimal}
-use Rattle.step_record.specs.declared.ring.Ring.{Ring}
-use Rattle.step_record.specs.declared.ring.Ring.TheVariants.{ControlToAudio, AudioToControl, ControlToWorker, WorkerToControl, Jobs, Responses, LocalJobs}
+use Rattle.step_law.specs.declared.ring.Ring.{Ring}
+use Rattle.step_law.specs.declared.ring.Ring.TheVariants.{ControlToAudio, AudioToControl, ControlToWorker, WorkerToControl, Jobs, Responses, LocalJobs}
 
 -- the number of a ring in an entry
 abbrev pub ring_number : Ring → ℕ

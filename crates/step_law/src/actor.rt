@@ -9,7 +9,7 @@ pub enum Actor {
 
 impl Actor {
     ghost use Rattle.std.specs.Prelude.{◌≡◌, ◌<◌, ◌^◌};
-    ghost use Rattle.step_record.specs.Actor.{actor_number, actor_at};
+    ghost use Rattle.step_law.specs.Actor.{actor_number, actor_at};
 
     /// The number that an entry has for it.
     pub fn number(self) -> u32

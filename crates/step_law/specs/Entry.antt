@@ -1,15 +1,15 @@
 -- The entries that actors make.
 use Rattle.std.specs.Prelude.{ℕ}
-use Rattle.step_record.specs.declared.actor.Actor.{Actor}
-use Rattle.step_record.specs.declared.actor.Actor.TheVariants.{Audio, Control}
-use Rattle.step_record.specs.declared.call.Call.{Call}
-use Rattle.step_record.specs.declared.entry.Entry.{Entry}
-use Rattle.step_record.specs.declared.entry.Kind.{Kind}
-use Rattle.step_record.specs.declared.entry.Kind.TheVariants.{Block, Look, Take, Send, Full, Long, Done, Stop, Begin, End, Beat, Join, Late, Last}
-use Rattle.step_record.specs.declared.ring.Ring.{Ring}
-use Rattle.step_record.specs.Actor.{actor_number}
-use Rattle.step_record.specs.Call.{call_number}
-use Rattle.step_record.specs.Ring.{ring_number}
+use Rattle.step_law.specs.declared.actor.Actor.{Actor}
+use Rattle.step_law.specs.declared.actor.Actor.TheVariants.{Audio, Control}
+use Rattle.step_law.specs.declared.call.Call.{Call}
+use Rattle.step_law.specs.declared.entry.Entry.{Entry}
+use Rattle.step_law.specs.declared.entry.Kind.{Kind}
+use Rattle.step_law.specs.declared.entry.Kind.TheVariants.{Block, Look, Take, Send, Full, Long, Done, Stop, Begin, End, Beat, Join, Late, Last}
+use Rattle.step_law.specs.declared.ring.Ring.{Ring}
+use Rattle.step_law.specs.Actor.{actor_number}
+use Rattle.step_law.specs.Call.{call_number}
+use Rattle.step_law.specs.Ring.{ring_number}
 
 -- an entry of an actor
 abbrev pub entry_of : Actor → Kind → ℕ → ℕ → Entry

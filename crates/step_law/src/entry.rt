@@ -13,9 +13,9 @@ pub struct Entry {
 
 impl Entry {
     ghost use Rattle.std.specs.Prelude.{◌≡◌, ◌<◌, ◌^◌};
-    ghost use Rattle.step_record.specs.Actor.{actor_number};
-    ghost use Rattle.step_record.specs.Ring.{ring_number};
-    ghost use Rattle.step_record.specs.Entry.{entry_of, block_of, done_of, look_of, take_of, send_of, full_of, long_of, begin_of, end_of, stop_of, beat_of, join, late_of, last};
+    ghost use Rattle.step_law.specs.Actor.{actor_number};
+    ghost use Rattle.step_law.specs.Ring.{ring_number};
+    ghost use Rattle.step_law.specs.Entry.{entry_of, block_of, done_of, look_of, take_of, send_of, full_of, long_of, begin_of, end_of, stop_of, beat_of, join, late_of, last};
 
     /// Audio begins a block.
     pub fn block(block: u32) -> Self

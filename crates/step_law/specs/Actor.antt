@@ -1,7 +1,7 @@
 -- The actors: their numbers and names.
 use Rattle.std.specs.Prelude.{ℕ, zero, suc, ◌+◌, List, ◌++◌, codes, decimal}
-use Rattle.step_record.specs.declared.actor.Actor.{Actor}
-use Rattle.step_record.specs.declared.actor.Actor.TheVariants.{Audio, Control, Worker}
+use Rattle.step_law.specs.declared.actor.Actor.{Actor}
+use Rattle.step_law.specs.declared.actor.Actor.TheVariants.{Audio, Control, Worker}
 
 -- the number of an actor in an entry
 abbrev pub actor_number : Actor → ℕ

@@ -1,7 +1,7 @@
 -- The calls on an instance: their numbers and names.
 use Rattle.std.specs.Prelude.{ℕ, List, [], ◌∷◌, Option, slice_get, codes}
-use Rattle.step_record.specs.declared.call.Call.{Call}
-use Rattle.step_record.specs.declared.call.Call.TheVariants.{Run, Response, EndRun, Work, Save, RestoreSafe, Make, Activate, Deactivate, Cleanup, Restore}
+use Rattle.step_law.specs.declared.call.Call.{Call}
+use Rattle.step_law.specs.declared.call.Call.TheVariants.{Run, Response, EndRun, Work, Save, RestoreSafe, Make, Activate, Deactivate, Cleanup, Restore}
 
 -- the number of a call in an entry
 abbrev pub call_number : Call → ℕ
