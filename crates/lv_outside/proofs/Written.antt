@@ -6,7 +6,7 @@ use Rattle.std.proofs.lemmas.Grind.{common_steps}
 use Rattle.std.proofs.lemmas.Cmp.{nat_list_eq_equiv}
 use Rattle.std.proofs.lemmas.Slice.Eq.{bytes_eq-Decides}
 use Rattle.std.proofs.lemmas.Bool.{false_from_ne_true}
-use Rattle.lv_outside.specs.MemoryVault.{VaultState, file_of, place_in, put}
+use Rattle.lv_outside.specs.MemoryVault.{MemVaultState, file_of, place_in, put}
 use Rattle.lv_outside.specs.Files.{Holds}
 
 -- how many files stand before the first at the path
@@ -50,7 +50,7 @@ lookup-put path bytes q (file ∷ files) =
     ] refl
 
 -- a write makes the path hold the bytes, and leaves the others
-pub holds_put : (old : VaultState) (path bytes : List ℕ) (new : VaultState) → new.files ≡ put path bytes old.files → Holds (file_of old) (file_of new) path bytes
+pub holds_put : (old : MemVaultState) (path bytes : List ℕ) (new : MemVaultState) → new.files ≡ put path bytes old.files → Holds (file_of old) (file_of new) path bytes
 holds_put old path bytes new e = record {
   here = rw e (rw (lookup-put path bytes path old.files) (rw (nat_list_eq_equiv.refl path) refl));
   others = λ q differs. rw e (rw (lookup-put path bytes q old.files) (rw (false_from_ne_true (bytes_eq q path) (λ same. differs ((bytes_eq-Decides q path).0 same))) refl));

@@ -1,6 +1,7 @@
 -- What is known of the vault and of the sink, before a call and after it.
-use Rattle.std.specs.Prelude.{◌≡◌, ℕ, Bool, IsTrue, List, ◌++◌, Option}
+use Rattle.std.specs.Prelude.{◌≡◌, ℕ, Bool, false, IsTrue, List, [], ◌++◌, Option, None}
 use Rattle.lv_outside.specs.Count.{Rose}
+use Rattle.lv_outside.specs.declared.counts.Counts.{Counts}
 
 -- a vault at a moment: whether its contents are known, what they are, and its counts of faults, absences and files too long
 pub record VaultState : Type 0 where
@@ -16,13 +17,14 @@ pub record SinkState : Type 0 where
   pub taken : List ℕ
   pub faults : ℕ
 
--- the state of a vault, by the meanings of its type
-abbrev pub vault_at : {V : Type 0} → (V → Bool) → (V → List ℕ → Option (List ℕ)) → (V → ℕ) → (V → ℕ) → (V → ℕ) → V → VaultState
-vault_at tells file faults absences longs vault =
-    record { tells = tells vault; file = file vault; faults = faults vault; absences = absences vault; longs = longs vault }
+-- of the system's files nothing is known but the counts
+abbrev pub unknown_vault : Counts → VaultState
+unknown_vault counts =
+    record { tells = false; file = λ path. None; faults = counts.faults; absences = counts.absences; longs = counts.longs }
 
-abbrev pub sink_at : {K : Type 0} → (K → Bool) → (K → List ℕ) → (K → ℕ) → K → SinkState
-sink_at tells taken faults sink = record { tells = tells sink; taken = taken sink; faults = faults sink }
+-- of standard output nothing is known but the count
+abbrev pub unknown_sink : ℕ → SinkState
+unknown_sink faults = record { tells = false; taken = []; faults = faults }
 
 -- every known file is as before
 abbrev pub LeavesFiles : VaultState → VaultState → Type 0

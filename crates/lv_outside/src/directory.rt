@@ -1,6 +1,7 @@
-ghost use Rattle.std.specs.Prelude.{◌≡◌, ◌≤◌, [], length, Some, None, IfSome, false};
+ghost use Rattle.std.specs.Prelude.{◌≡◌, ◌≤◌, [], length, Some, None, IfSome};
 ghost use Rattle.lv_outside.specs.Files.{ReadGives};
 ghost use Rattle.lv_outside.specs.Counts.{no_counts};
+ghost use Rattle.lv_outside.specs.World.{unknown_vault};
 
 use crate::counts::{Counts, count};
 use crate::{Fetch, Put, Vault};
@@ -51,15 +52,7 @@ impl<R: Files> DirVault<R> {
 }
 
 impl<R: Files> Vault for DirVault<R> {
-    ghost tells = { λ vault. false };
-
-    ghost file = { λ vault path. None };
-
-    ghost faults = { λ vault. vault.counts.faults };
-
-    ghost absences = { λ vault. vault.counts.absences };
-
-    ghost longs = { λ vault. vault.counts.longs };
+    ghost state = { λ vault. unknown_vault vault.counts };
 
     fn read(&mut self, path: &[u8], most: u64, into: &mut Bytes) -> Fetch {
         let answer = self.fetch_seeded(path, most, into);

@@ -1,7 +1,7 @@
 ghost use Rattle.std.specs.Prelude.{◌≡◌, ◌++◌, [], IsTrue, true, false};
 ghost use Rattle.lv_outside.specs.Count.{Counted};
 ghost use Rattle.lv_outside.specs.Taken.{TakesFront};
-ghost use Rattle.lv_outside.specs.MemorySink.{is_sink_due, after_put};
+ghost use Rattle.lv_outside.specs.MemorySink.{known_sink, is_sink_due, after_put};
 
 use crate::{Put, Sink};
 use lv_base::{Bytes, Items};
@@ -18,9 +18,9 @@ pub struct MemSink {
 }
 
 impl Model for MemSink {
-    ghost use Rattle.lv_outside.specs.MemorySink.{SinkState};
+    ghost use Rattle.lv_outside.specs.MemorySink.{MemSinkState};
 
-    ghost Value = { SinkState };
+    ghost Value = { MemSinkState };
 
     ghost view = { λ sink. record { taken = sink.taken; fails = sink.fails; calls = sink.calls; faults = sink.faults } };
 }
@@ -46,11 +46,7 @@ impl MemSink {
 }
 
 impl Sink for MemSink {
-    ghost tells = { λ sink. true };
-
-    ghost taken = { λ sink. sink.taken };
-
-    ghost faults = { λ sink. sink.faults };
+    ghost state = { known_sink };
 
     fn put(&mut self, bytes: &[u8]) -> Put
         ensures done { result ≡ Put.Done → self.new.taken ≡ self.old.taken ++ bytes.now }

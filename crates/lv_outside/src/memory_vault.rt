@@ -2,7 +2,7 @@ ghost use Rattle.std.specs.Prelude.{◌≡◌, ◌≢◌, List, ℕ, [], true, f
 ghost use Rattle.std.specs.Option.{option_copied};
 ghost use Rattle.lv_outside.specs.Count.{Counted, next_count};
 ghost use Rattle.lv_outside.specs.Files.{ReadGives, Holds};
-ghost use Rattle.lv_outside.specs.MemoryVault.{new_vault, file_of, place_in, put, is_vault_due, found, read_answer, after_read, after_write};
+ghost use Rattle.lv_outside.specs.MemoryVault.{known_vault, new_vault, file_of, place_in, put, is_vault_due, found, read_answer, after_read, after_write};
 
 use crate::counts::{Counts, count};
 use crate::{Fetch, Put, Vault};
@@ -21,9 +21,9 @@ pub struct MemVault {
 }
 
 impl Model for MemVault {
-    ghost use Rattle.lv_outside.specs.MemoryVault.{VaultState};
+    ghost use Rattle.lv_outside.specs.MemoryVault.{MemVaultState};
 
-    ghost Value = { VaultState };
+    ghost Value = { MemVaultState };
 
     ghost view = { λ vault. record { files = vault.files; fails = vault.fails; calls = vault.calls; counts = vault.counts } };
 }
@@ -111,15 +111,7 @@ impl MemVault {
 }
 
 impl Vault for MemVault {
-    ghost tells = { λ vault. true };
-
-    ghost file = { file_of };
-
-    ghost faults = { λ vault. vault.counts.faults };
-
-    ghost absences = { λ vault. vault.counts.absences };
-
-    ghost longs = { λ vault. vault.counts.longs };
+    ghost state = { known_vault };
 
     fn read(&mut self, path: &[u8], most: u64, into: &mut Bytes) -> Fetch
         ensures gives { ReadGives (file_of self.old path.now) most result into.new }

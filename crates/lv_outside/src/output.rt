@@ -1,4 +1,5 @@
-ghost use Rattle.std.specs.Prelude.{◌≡◌, [], false};
+ghost use Rattle.std.specs.Prelude.{◌≡◌};
+ghost use Rattle.lv_outside.specs.World.{unknown_sink};
 
 use crate::{Put, Sink};
 
@@ -19,11 +20,7 @@ impl<R: Print> OutSink<R> {
 }
 
 impl<R: Print> Sink for OutSink<R> {
-    ghost tells = { λ sink. false };
-
-    ghost taken = { λ sink. [] };
-
-    ghost faults = { λ sink. sink.faults };
+    ghost state = { λ sink. unknown_sink sink.faults };
 
     fn put(&mut self, bytes: &[u8]) -> Put {
         match self.rt.write_all(bytes) {
