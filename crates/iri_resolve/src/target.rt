@@ -1,4 +1,4 @@
-ghost use Rattle.std.specs.Prelude.{◌≡◌, [], ◌++◌, ◌+◌, ◌≤◌, ◌↔◌, ℕ, List, codes, length, take, OnOk, IfOk, IsNone, IsSome, IsTrue};
+ghost use Rattle.std.specs.Prelude.{◌≡◌, [], ◌++◌, ◌+◌, ◌≤◌, ◌↔◌, ℕ, List, codes, length, take, OnOk, IfOk, IsNone, IsSome, IsTrue, is_some, if◌then◌else◌};
 ghost use Rattle.iri_resolve.specs.Components.{scheme_of, parts_of, part_at, components, AreWithin, IsWithin};
 ghost use Rattle.iri_resolve.specs.Dots.{without_dots};
 ghost use Rattle.iri_resolve.specs.Target.{directory, merged, marked, scheme_text, transformed, resolved};
@@ -92,15 +92,32 @@ fn push_target(
         push_scheme(target, reference, to.scheme)?;
         push_named(target, reference, to)?;
     } else {
-        let from = split(base);
-        push_scheme(target, base, from.scheme)?;
-        if to.authority.is_some() {
-            push_named(target, reference, to)?;
-        } else {
-            push_local(alloc, target, base, from, reference, to)?;
-        }
+        push_relative(alloc, target, base, reference, to)?;
     }
     push_part(target, b"#", reference, to.fragment)
+}
+
+/// Adds what stands before the fragment of the target, of a reference that has no scheme.
+fn push_relative(
+    alloc: Global,
+    target: &mut Vec<u8>,
+    base: &[u8],
+    reference: &[u8],
+    to: Parts,
+) -> Result<(), AllocError>
+    requires parts { to ≡ parts_of reference.now }
+    requires within { AreWithin reference.now to }
+    requires no_scheme { IsNone to.scheme }
+    ensures { let whole = transformed (components base.now) (components reference.now) in OnOk result (target.new.items
+        ≡ target.old.items ++ scheme_text whole.scheme ++ marked (codes "//") whole.authority ++ whole.path ++ marked (codes "?") whole.query) }
+{
+    let from = split(base);
+    push_scheme(target, base, from.scheme)?;
+    if to.authority.is_some() {
+        push_named(target, reference, to)
+    } else {
+        push_local(alloc, target, base, from, reference, to)
+    }
 }
 
 /// Adds authority, path and query of a reference that has a scheme or an authority.
@@ -136,11 +153,7 @@ fn push_local(
     let path = path_in(reference, to);
     push_part(target, b"//", base, from.authority)?;
     if path.is_empty() {
-        target.extend_from_slice(path_in(base, from))?;
-        if to.query.is_some() {
-            return push_part(target, b"?", reference, to.query);
-        }
-        return push_part(target, b"?", base, from.query);
+        return push_base_path(target, base, from, reference, to.query);
     }
     if path.starts_with(b"/") {
         push_without_dots(target, path)?;
@@ -148,6 +161,28 @@ fn push_local(
         push_merged(alloc, target, base, from, path)?;
     }
     push_part(target, b"?", reference, to.query)
+}
+
+/// Adds the path of the base, and a query: the reference's, if it is there, else that of the base.
+fn push_base_path(
+    target: &mut Vec<u8>,
+    base: &[u8],
+    from: Parts,
+    reference: &[u8],
+    query: Option<(usize, usize)>,
+) -> Result<(), AllocError>
+    requires from { from ≡ parts_of base.now }
+    requires from_within { AreWithin base.now from }
+    requires within { IsWithin reference.now query }
+    ensures { let of_base = components base.now in OnOk result (target.new.items ≡ target.old.items ++ of_base.path
+        ++ marked (codes "?") (if is_some query then part_at reference.now query else of_base.query)) }
+{
+    target.extend_from_slice(path_in(base, from))?;
+    if query.is_some() {
+        push_part(target, b"?", reference, query)
+    } else {
+        push_part(target, b"?", base, from.query)
+    }
 }
 
 /// Adds a relative path, merged with that of the base and without its dot segments.
