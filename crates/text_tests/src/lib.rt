@@ -1,0 +1,5 @@
+//! Tests of the layer of texts: IRIs, Turtle and triples.
+#![tactic(auto)]
+
+#[cfg(test)]
+mod tests;
