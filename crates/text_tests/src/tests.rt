@@ -1,0 +1,4 @@
+mod listings;
+mod token_values;
+mod tokens;
+mod triples;
