@@ -31,6 +31,10 @@ fn row(alloc: Global, text: &str, datatype: &str, lang: &str) -> Result<Triple, 
     })
 }
 
+fn assert_bytes(rt: &impl Abort, read: &[u8], wanted: &str) {
+    assert!(rt; read == wanted.as_bytes(), "{wanted}");
+}
+
 fn push_list(into: &mut Bytes, row: Triple) -> Result<(), NoMemory> {
     push_listing(into, &[row])
 }
@@ -43,7 +47,7 @@ fn assert_lists(
 ) -> Result<(), Fail> {
     let mut into = Bytes::from_slice(alloc, b"> ")?;
     push_list(&mut into, row(alloc, text, datatype, lang)?)?;
-    assert!(rt; into.as_slice() == wanted.as_bytes(), "{text}");
+    assert_bytes(rt, into.as_slice(), wanted);
     Ok(())
 }
 
@@ -69,6 +73,6 @@ fn strings(rt: HostRuntime) -> Result<(), Fail> {
 fn no_row(rt: HostRuntime) -> Result<(), Fail> {
     let mut into = Bytes::new(rt.alloc());
     push_listing(&mut into, &[])?;
-    assert!(rt; into.as_slice() == b"triples 0\n".as_slice());
+    assert_bytes(&rt, into.as_slice(), "triples 0\n");
     Ok(())
 }

@@ -1,5 +1,6 @@
 //! What tokens stand for.
 
+use crate::tests::assert_text;
 use lv_base::{NoMemory, Text};
 use std::alloc::Global;
 use std::process::Abort;
@@ -16,7 +17,7 @@ fn assert_says(
     says: &str,
 ) -> Result<(), NoMemory> {
     let text = string_text(alloc, quotes, token)?;
-    assert_eq!(rt; text.as_str(), says, "{token}");
+    assert_text(rt, text.as_str(), says);
     Ok(())
 }
 
@@ -43,7 +44,7 @@ fn long_strings(rt: HostRuntime) -> Result<(), Fail> {
 #[test]
 fn references(rt: HostRuntime) -> Result<(), Fail> {
     let reference = reference_text(rt.alloc(), "<a\\u0041>")?;
-    assert_eq!(rt; reference.as_str(), "aA");
+    assert_text(&rt, reference.as_str(), "aA");
     Ok(())
 }
 
@@ -58,13 +59,13 @@ fn references_without_escapes(rt: HostRuntime) {
 fn names(rt: HostRuntime) -> Result<(), Fail> {
     let namespace = Text::from_str(rt.alloc(), "http://e.x/d/q#")?;
     let iri = expand(rt.alloc(), &namespace, "p:b%20c\\,d:e")?;
-    assert!(rt; iri.as_str() == "http://e.x/d/q#b%20c,d:e");
+    assert_text(&rt, iri.as_str(), "http://e.x/d/q#b%20c,d:e");
     Ok(())
 }
 
 #[test]
 fn language_tags(rt: HostRuntime) -> Result<(), Fail> {
     let tag = tag_text(rt.alloc(), "@de-AT")?;
-    assert_eq!(rt; tag.as_str(), "de-AT");
+    assert_text(&rt, tag.as_str(), "de-AT");
     Ok(())
 }

@@ -1,5 +1,6 @@
 //! The tokens of texts, and how the texts end.
 
+use crate::tests::assert_text;
 use std::alloc::Global;
 use std::process::Abort;
 use std::test::Fail;
@@ -57,7 +58,7 @@ fn push_last(
 fn assert_reads(rt: &impl Abort, alloc: Global, line: &str) -> Result<(), Fail> {
     let (text, wanted) = line.split_once(" => ").unwrap_or((line, ""));
     let read = told(alloc, text.as_bytes())?;
-    assert_eq!(rt; read.as_str(), wanted, "{text}");
+    assert_text(rt, read.as_str(), wanted);
     Ok(())
 }
 
@@ -72,14 +73,14 @@ fn tokens(rt: HostRuntime) -> Result<(), Fail> {
 #[test]
 fn marks_are_left_out(rt: HostRuntime) -> Result<(), Fail> {
     let marked = told(rt.alloc(), b"\xEF\xBB\xBF# mark\n.")?;
-    assert_eq!(rt; marked.as_str(), "Dot 10 11, Ok(None)");
+    assert_text(&rt, marked.as_str(), "Dot 10 11, Ok(None)");
     Ok(())
 }
 
 #[test]
 fn refuses_what_is_no_utf8(rt: HostRuntime) -> Result<(), Fail> {
     let broken = told(rt.alloc(), b". \xFF")?;
-    assert_eq!(rt; broken.as_str(), "Err(NotUtf8(2))");
+    assert_text(&rt, broken.as_str(), "Err(NotUtf8(2))");
     Ok(())
 }
 

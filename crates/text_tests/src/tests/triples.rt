@@ -2,6 +2,7 @@
 ghost use Rattle.std.specs.Prelude.{◌≡◌, ◌≤◌, ◌<◌, ◌^◌, IfOk};
 ghost use Rattle.triple_store.specs.Triples.{blanks_of_term, blanks_of_triple};
 
+use crate::tests::assert_text;
 use lv_base::{NoMemory, Text};
 use std::alloc::Global;
 use std::process::Abort;
@@ -136,12 +137,21 @@ fn adds_each_late_row_once(rt: HostRuntime) -> Result<(), Fail> {
     add_late_rows_twice(&rt, rt.alloc(), &mut store)
 }
 
-fn find_rows(rt: &impl Abort, alloc: Global, store: &Store, node: &Term) -> Result<(), Fail> {
-    let from = rows_from(alloc, store, node)?;
-    assert_eq!(rt; from.as_str(), "0 0,0 1,0 2,");
-    let to = rows_to(alloc, store, node)?;
-    assert_eq!(rt; to.as_str(), "0 0,1 0,");
+fn assert_from(rt: &impl Abort, alloc: Global, store: &Store, node: &Term) -> Result<(), Fail> {
+    let text = rows_from(alloc, store, node)?;
+    assert_text(rt, text.as_str(), "0 0,0 1,0 2,");
     Ok(())
+}
+
+fn assert_to(rt: &impl Abort, alloc: Global, store: &Store, node: &Term) -> Result<(), Fail> {
+    let text = rows_to(alloc, store, node)?;
+    assert_text(rt, text.as_str(), "0 0,1 0,");
+    Ok(())
+}
+
+fn find_rows(rt: &impl Abort, alloc: Global, store: &Store, node: &Term) -> Result<(), Fail> {
+    assert_from(rt, alloc, store, node)?;
+    assert_to(rt, alloc, store, node)
 }
 
 fn add_and_find(rt: &impl Abort, alloc: Global, store: &mut Store) -> Result<(), Fail> {
