@@ -1,4 +1,4 @@
-//! Tests of the layer of texts: IRIs, Turtle and triples.
+//! Tests of the layer of texts: IRIs, tokens and what they stand for, triples and their listing.
 #![tactic(auto)]
 
 #[cfg(test)]

@@ -17,10 +17,7 @@ mod plain;
 mod run;
 mod start;
 mod stop;
-mod tag;
-#[cfg(test)]
-mod tests;
-mod word;
+mod tag;mod word;
 
 pub use fault::LexFault;
 pub use lexer::{Lexer, next};
