@@ -1,9 +1,8 @@
 //! How many brackets may be open.
 
-use crate::tests::load::load;
+use crate::tests::reading::{base, read_new};
 use std::alloc::Global;
 use std::test::Fail;
-use triple_store::Store;
 use turtle_read::TurtleFault;
 
 /// `<urn:s> <urn:p>` and so many collections, one within the other.
@@ -19,19 +18,15 @@ fn nested(alloc: Global, depth: usize) -> Result<String, Fail> {
     Ok(text)
 }
 
-/// What such a document is.
-fn read_nested(alloc: Global, depth: usize) -> Result<Result<u32, TurtleFault>, Fail> {
-    let mut store = Store::new(alloc);
-    let text = nested(alloc, depth)?;
-    Ok(load(alloc, text.as_bytes(), &mut store)?)
-}
-
 /// All but the innermost collection have one item, hence two triples.
 #[test]
 fn depth(rt: HostRuntime) -> Result<(), Fail> {
-    let most = read_nested(rt.alloc(), 256)?;
-    assert_eq!(rt; most, Ok(511));
-    let deeper = read_nested(rt.alloc(), 257)?;
-    assert_eq!(rt; deeper, Err(TurtleFault::Depth(272)));
+    let base = base(rt.alloc())?;
+    let most = nested(rt.alloc(), 256)?;
+    let deeper = nested(rt.alloc(), 257)?;
+    let (result, _) = read_new(rt.alloc(), &base, most.as_bytes());
+    assert_eq!(rt; result, Ok(511));
+    let (result, _) = read_new(rt.alloc(), &base, deeper.as_bytes());
+    assert_eq!(rt; result, Err(TurtleFault::Depth(272)));
     Ok(())
 }
