@@ -5,7 +5,7 @@ ghost use Rattle.session_script.specs.Line.{lines_of};
 ghost use Rattle.session_script.specs.Places as places;
 ghost use Rattle.session_script.specs.Playable.{IsPlayable};
 ghost use Rattle.session_script.specs.Script.{IsSessionOf};
-ghost use Rattle.session_script.specs.Statement.{said};
+ghost use Rattle.session_script.specs.Said.{said};
 ghost use Rattle.session_script.specs.Stock as stock;
 ghost use Rattle.session_script.specs.Words.{value_of};
 
