@@ -1,0 +1,4 @@
+mod amplifier;
+mod declarations;
+mod lines;
+mod rules;
