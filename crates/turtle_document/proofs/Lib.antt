@@ -3,9 +3,12 @@ pub mod Collections
 pub mod Completion
 pub mod Directives
 pub mod Examples
+pub mod FewNumbers
 pub mod Fill
 pub mod Formed
 pub mod Lists
+pub mod Mentions
+pub mod Numbering
 pub mod Objects
 pub mod OneOutcome
 pub mod Properties

@@ -2,7 +2,7 @@ use lv_base::Text;
 use triple_store::Term;
 
 /// What the next term that is read in full stands for.
-#[derive(Clone, Debug, PartialEq, Eq, Drop)]
+#[derive(Drop)]
 pub enum Hole {
     /// The subject of a statement.
     Subject,
@@ -15,7 +15,7 @@ pub enum Hole {
 }
 
 /// How far a collection has been read.
-#[derive(Clone, Copy, Debug, PartialEq, Eq)]
+#[derive(Clone, Copy)]
 pub enum Chain {
     /// No item so far.
     Empty,
@@ -24,7 +24,7 @@ pub enum Chain {
 }
 
 /// What has to come next.
-#[derive(Clone, Debug, PartialEq, Eq, Drop)]
+#[derive(Drop)]
 pub enum Expected {
     /// A statement, or the end.
     Statement,

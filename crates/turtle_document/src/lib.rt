@@ -6,4 +6,4 @@ mod expected;
 mod laws;
 
 pub use expected::{Chain, Expected, Hole};
-pub use laws::{keeps_rows, one_outcome, some_outcome};
+pub use laws::{keeps_few_numbers, keeps_rows, one_outcome, some_outcome, uses_its_numbers};

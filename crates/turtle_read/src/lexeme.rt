@@ -1,7 +1,7 @@
 use turtle_grammar::TokenKind;
 
 /// A token with its text.
-#[derive(Clone, Copy, Debug)]
+#[derive(Clone, Copy)]
 pub struct Lexeme<'a> {
     pub kind: TokenKind,
     pub at: usize,

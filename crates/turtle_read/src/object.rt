@@ -9,6 +9,7 @@ use turtle_grammar::TokenKind;
 
 impl Reader {
     ghost use Rattle.std.specs.Prelude.{◌≡◌};
+    ghost use Rattle.turtle_grammar.specs.declared.token.TokenKind.TheVariants as kinds;
     ghost use Rattle.turtle_read.specs.Moves as machine;
     ghost use Rattle.turtle_read.specs.Faults.{leaf_of, Follows};
     ghost use Rattle.turtle_read.specs.Readers.{config_of, inside, kept};
@@ -43,8 +44,7 @@ impl Reader {
             Some(datatype) => {
                 let datatype = datatype.clone()?;
                 let text = self.shorts.text(self.alloc, token.text)?;
-                let term = self.words.typed(text, datatype)?;
-                self.fill(hole, token.at, term)
+                self.fill_typed(hole, token.at, text, datatype)
             }
             None => self.begin_resource(token, hole),
         }
@@ -73,26 +73,44 @@ impl Reader {
         ensures kept { kept self.new ≡ kept self.old }
     {
         match token.kind {
-            TokenKind::BlankLabel => {
-                let term = self.environment.labelled(token.text)?;
-                self.fill(hole, token.at, term)
-            }
-            TokenKind::OpenSquare => {
-                self.may_open(token.at)?;
-                let node = self.environment.number()?;
-                self.outer.push(hole)?;
-                self.expect(Expected::Property { node });
-                Ok(())
-            }
-            TokenKind::OpenRound => {
-                self.may_open(token.at)?;
-                self.outer.push(hole)?;
-                self.expect(Expected::Item {
-                    chain: Chain::Empty,
-                });
-                Ok(())
-            }
+            TokenKind::BlankLabel => self.begin_label(token, hole),
+            TokenKind::OpenSquare => self.open_square(token, hole),
+            TokenKind::OpenRound => self.open_round(token, hole),
             _ => Err(TokenFault::Syntax(token.at)),
         }
+    }
+
+    // The label of a blank node.
+    fn begin_label(&mut self, token: Lexeme<'_>, hole: Hole) -> Result<(), TokenFault>
+        ensures moves { Follows token.entry.at result (config_of self.new) (inside self.new) (machine.begin_node kinds.BlankLabel hole (leaf_of token.entry) self.old.outer (inside self.old)) }
+        ensures kept { kept self.new ≡ kept self.old }
+    {
+        let term = self.environment.labelled(token.text)?;
+        self.fill(hole, token.at, term)
+    }
+
+    // The bracket of a property list or of a node without one.
+    fn open_square(&mut self, token: Lexeme<'_>, hole: Hole) -> Result<(), TokenFault>
+        ensures moves { Follows token.entry.at result (config_of self.new) (inside self.new) (machine.begin_node kinds.OpenSquare hole (leaf_of token.entry) self.old.outer (inside self.old)) }
+        ensures kept { kept self.new ≡ kept self.old }
+    {
+        self.may_open(token.at)?;
+        let node = self.environment.number()?;
+        self.outer.push(hole)?;
+        self.expect(Expected::Property { node });
+        Ok(())
+    }
+
+    // The bracket of a collection.
+    fn open_round(&mut self, token: Lexeme<'_>, hole: Hole) -> Result<(), TokenFault>
+        ensures moves { Follows token.entry.at result (config_of self.new) (inside self.new) (machine.begin_node kinds.OpenRound hole (leaf_of token.entry) self.old.outer (inside self.old)) }
+        ensures kept { kept self.new ≡ kept self.old }
+    {
+        self.may_open(token.at)?;
+        self.outer.push(hole)?;
+        self.expect(Expected::Item {
+            chain: Chain::Empty,
+        });
+        Ok(())
     }
 }

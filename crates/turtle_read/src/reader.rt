@@ -56,14 +56,38 @@ impl Reader {
     pub fn into_store(self) -> Store
         ensures { result ≡ (inside self).rows }
     {
-        self.environment.into_store()
+        let Reader {
+            alloc: _,
+            words,
+            shorts,
+            environment,
+            next,
+            outer,
+        } = self;
+        mem::drop(words);
+        mem::drop(shorts);
+        mem::drop(next);
+        mem::drop(outer);
+        environment.into_store()
     }
 
     /// The store as it was before the document.
     pub fn into_old_store(self) -> Store
         ensures { result ≡ kept self }
     {
-        self.environment.into_old_store()
+        let Reader {
+            alloc: _,
+            words,
+            shorts,
+            environment,
+            next,
+            outer,
+        } = self;
+        mem::drop(words);
+        mem::drop(shorts);
+        mem::drop(next);
+        mem::drop(outer);
+        environment.into_old_store()
     }
 
     // What has to come next.
@@ -71,7 +95,7 @@ impl Reader {
     pub(crate) fn expect(&mut self, next: Expected)
         ensures { self.new ≡ record self.old { next = next } }
     {
-        self.next = next;
+        mem::drop(mem::replace(&mut self.next, next));
     }
 
     // What has to come next. A statement stands in its place until the token is judged.

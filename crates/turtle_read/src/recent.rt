@@ -9,7 +9,7 @@ use std::marker::Model;
 use turtle_grammar::TokenKind;
 
 /// Whether such names mostly come again.
-#[derive(Clone, Copy, Debug, PartialEq, Eq)]
+#[derive(Clone, Copy, PartialEq, Eq)]
 pub enum Recurs {
     Often,
     Seldom,

@@ -6,7 +6,7 @@ use std::alloc::AllocError;
 
 /// Why a token isn't taken: the faults of a document that are no lexer's. They are small, since each move of the reader gives a
 /// `Result` with them.
-#[derive(Clone, Copy, Debug, PartialEq, Eq)]
+#[derive(Clone, Copy)]
 pub enum TokenFault {
     Syntax(usize),
     NoPrefix(usize),

@@ -1,4 +1,5 @@
-use Rattle.std.proofs.Common.{◌∙◌, refl, ap, sym, Ok}
+use Rattle.std.proofs.Common.{◌∙◌, refl, ap, sym, Ok, []}
+use Rattle.triple_store.specs.declared.term.Term.TheVariants as terms
 use Rattle.turtle_read.specs.Faults.{leaf_of}
 use Rattle.turtle_read.specs.Moves as moves
 use Rattle.turtle_read.specs.Readers.{inside}
@@ -11,12 +12,12 @@ returns-in_err-datatype-clause-moves c =
     residual c.args.token.at c.from_residual.result c.in_err-datatype.field-0.0 _ _ _ c.from_residual.ensures.1
     (stops_from c.args.token.at c.in_err-datatype.field-0.0 _ _ c.in_err-datatype.ensures.value (laws.typed_fault c.args.token.kind (leaf_of c.args.token) c.args.text c.args.hole c.args.self.now.outer (inside c.args.self.now)))
 
-pub returns-in_ok-term-in-Some-clause-moves : goal.returns-in_ok-term-in-Some-clause-moves
-returns-in_ok-term-in-Some-clause-moves c =
-    follows_as c.args.token.at c.fill.result _ _ _ _
-    (laws.typed_named c.args.token.kind (leaf_of c.args.token) c.args.text c.args.hole c.args.self.now.outer (inside c.args.self.now) c.in-Some.datatype c.in_ok-term-in-Some.term (c.in_ok-datatype.ensures.value ∙ ap Ok c.in-Some.is) c.in_ok-term-in-Some.ensures
-    ∙ ap (λ st. moves.filled c.args.hole c.args.token.at c.in_ok-term-in-Some.term c.args.self.now.outer st) (sym c.in_ok-datatype.ensures.state))
-    (c.fill.ensures.moves c.args.token.at)
+pub returns-in-Some-clause-moves : goal.returns-in-Some-clause-moves
+returns-in-Some-clause-moves c =
+    follows_as c.args.token.at c.fill_typed.result _ _ _ _
+    (laws.typed_named c.args.token.kind (leaf_of c.args.token) c.args.text c.args.hole c.args.self.now.outer (inside c.args.self.now) c.in-Some.datatype (terms.Literal c.args.text c.in-Some.datatype []) (c.in_ok-datatype.ensures.value ∙ ap Ok c.in-Some.is) refl
+    ∙ ap (λ st. moves.filled c.args.hole c.args.token.at (terms.Literal c.args.text c.in-Some.datatype []) c.args.self.now.outer st) (sym c.in_ok-datatype.ensures.state))
+    (c.fill_typed.ensures.moves c.args.token.at)
 
 pub returns-in-None-clause-moves : goal.returns-in-None-clause-moves
 returns-in-None-clause-moves c =
