@@ -5,7 +5,7 @@ use session_load::{LoadFault, bundle, one_answer, stays_inside};
 use std::alloc::Global;
 use std::process::Abort;
 use std::test::Fail;
-use triple_store::{Store, Term};
+use triple_store::{Store, Term, Triple};
 
 /// IRIs in a manifest, and the files that they name in the bundle 3, if any. Of an IRI as it stands dot segments go first.
 const NAMES: &str = "file:///bundle/3/amp.ttl amp.ttl
@@ -72,11 +72,35 @@ fn load(alloc: Global, lines: &str, fails: &[u64]) -> Result<Store, LoadFault> {
     bundle(alloc, &path, 3, &mut vault)
 }
 
-fn shown(alloc: Global, lines: &str, fails: &[u64]) -> Result<String, Fail> {
-    match load(alloc, lines, fails) {
-        Ok(store) => Ok(format!(in alloc; "rows {}", store.count())?),
+fn push_subject(text: &mut String, row: &Triple) -> Result<(), Fail> {
+    if let Term::Iri(iri) = &row.s {
+        if let Some(name) = iri.as_str().strip_prefix("file:///bundle/3/") {
+            text.push_str(" ")?;
+            text.push_str(name)?;
+        }
+    }
+    Ok(())
+}
+
+/// The number of rows, and the subjects that are files of the bundle.
+fn store_text(alloc: Global, store: &Store) -> Result<String, Fail> {
+    let mut text = format!(in alloc; "rows {}", store.count())?;
+    for row in store.rows() {
+        push_subject(&mut text, row)?;
+    }
+    Ok(text)
+}
+
+fn answer_text(alloc: Global, answer: &Result<Store, LoadFault>) -> Result<String, Fail> {
+    match answer {
+        Ok(store) => store_text(alloc, store),
         Err(fault) => Ok(format!(in alloc; "{fault}")?),
     }
+}
+
+fn shown(alloc: Global, lines: &str, fails: &[u64]) -> Result<String, Fail> {
+    let answer = load(alloc, lines, fails);
+    answer_text(alloc, &answer)
 }
 
 fn answers(rt: &impl Abort, alloc: Global, lines: &str, wanted: &str) -> Result<(), Fail> {
@@ -91,15 +115,25 @@ fn manifest(alloc: Global, statements: &str) -> Result<String, Fail> {
     Ok(format!(in alloc; "amp.lv2/manifest.ttl {prefixes} {statements}")?)
 }
 
-/// Asserts which file is looked for where a manifest names this IRI: the only one that the vault hasn't.
-fn names(rt: &impl Abort, alloc: Global, iri: &str, name: &str) -> Result<(), Fail> {
+/// The line of a manifest that names this IRI.
+fn manifest_with(alloc: Global, iri: &str) -> Result<String, Fail> {
     let statements = format!(in alloc; "<urn:p> a lv2:Plugin ; rdfs:seeAlso <{iri}> .")?;
-    let manifest = manifest(alloc, &statements)?;
+    manifest(alloc, &statements)
+}
+
+/// The answer where this file is missing, or none is looked for.
+fn answer_without(alloc: Global, name: &str) -> Result<String, Fail> {
     if name.is_empty() {
-        return answers(rt, alloc, &manifest, "rows 2");
+        return Ok(String::from_str(alloc, "rows 2")?);
     }
-    let missing = format!(in alloc; "missing amp.lv2/{name}")?;
-    answers(rt, alloc, &manifest, &missing)
+    Ok(format!(in alloc; "missing amp.lv2/{name}")?)
+}
+
+/// Asserts which file is looked for where a manifest names this IRI.
+fn names(rt: &impl Abort, alloc: Global, iri: &str, name: &str) -> Result<(), Fail> {
+    let lines = manifest_with(alloc, iri)?;
+    let wanted = answer_without(alloc, name)?;
+    answers(rt, alloc, &lines, &wanted)
 }
 
 #[test]
@@ -114,28 +148,19 @@ fn an_iri_names_a_file(rt: HostRuntime) -> Result<(), Fail> {
 }
 
 #[test]
-fn a_manifest_that_can_t_be_read(rt: HostRuntime) -> Result<(), Fail> {
-    let alloc = rt.alloc();
-    answers(&rt, alloc, "manifest.ttl .", "missing amp.lv2/manifest.ttl")?;
-    let answer = shown(alloc, "amp.lv2/manifest.ttl ", &[0])?;
-    assert_eq!(rt; answer.as_str(), "read failed amp.lv2/manifest.ttl");
-    Ok(())
+fn a_manifest_that_is_missing(rt: HostRuntime) -> Result<(), Fail> {
+    answers(
+        &rt,
+        rt.alloc(),
+        "manifest.ttl .",
+        "missing amp.lv2/manifest.ttl",
+    )
 }
 
-/// Asserts that a row's subject is this file of the bundle.
-fn has_subject(
-    rt: &impl Abort,
-    alloc: Global,
-    store: &Store,
-    place: usize,
-    name: &str,
-) -> Result<(), Fail> {
-    let row = store.rows().get(place).ok_or("a row")?;
-    let iri = format!(in alloc; "file:///bundle/3/{name}")?;
-    match &row.s {
-        Term::Iri(subject) => assert_eq!(rt; subject.as_str(), iri.as_str()),
-        _ => assert!(rt; false, "no IRI at {place}"),
-    }
+#[test]
+fn a_manifest_that_can_t_be_read(rt: HostRuntime) -> Result<(), Fail> {
+    let answer = shown(rt.alloc(), "amp.lv2/manifest.ttl .", &[0])?;
+    assert_eq!(rt; answer.as_str(), "read failed amp.lv2/manifest.ttl");
     Ok(())
 }
 
@@ -146,11 +171,7 @@ fn files_in_order_and_once(rt: HostRuntime) -> Result<(), Fail> {
     lines.push_str(A)?;
     lines.push_str(B)?;
     lines.push_str(C)?;
-    let store = load(alloc, &lines, &[]).ok().ok_or("a bundle")?;
-    assert_eq!(rt; store.count(), 15);
-    has_subject(&rt, alloc, &store, 12, "b.ttl")?;
-    has_subject(&rt, alloc, &store, 13, "a.ttl")?;
-    has_subject(&rt, alloc, &store, 14, "c.ttl")
+    answers(&rt, alloc, &lines, "rows 15 b.ttl a.ttl c.ttl")
 }
 
 #[test]
