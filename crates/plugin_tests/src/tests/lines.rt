@@ -63,11 +63,16 @@ fn tagged(alloc: Global, text: &str, lang: &str) -> Result<Term, NoMemory> {
     })
 }
 
+fn has_text(alloc: Global, fault: &DeclFault, text: &str) -> Result<bool, NoMemory> {
+    let mut into = Bytes::new(alloc);
+    push_rule(&mut into, fault)?;
+    Ok(into.as_slice() == text.as_bytes())
+}
+
 /// Asserts that this is the text of a fault.
 fn says(rt: &impl Abort, alloc: Global, fault: DeclFault, text: &str) -> Result<(), Fail> {
-    let mut into = Bytes::new(alloc);
-    push_rule(&mut into, &fault)?;
-    assert!(rt; into.as_slice() == text.as_bytes(), "{text}");
+    let is = has_text(alloc, &fault, text)?;
+    assert!(rt; is, "{text}");
     Ok(())
 }
 
