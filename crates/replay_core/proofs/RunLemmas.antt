@@ -10,8 +10,8 @@ use Rattle.std.proofs.lemmas.List.Sums.{fold-append}
 use Rattle.std.proofs.lemmas.Option.{slice_get_read}
 use Rattle.session_script.specs.declared.session.Session.{Session}
 use Rattle.session_script.specs.declared.session.Inst.{Inst}
-use Rattle.session_script.specs.FirstPath.Stock.{IsStockUri}
-use Rattle.session_script.specs.FirstPath.Valid.{IsValid}
+use Rattle.session_script.specs.Stock.{IsStockUri}
+use Rattle.session_script.specs.Playable.{IsPlayable}
 use Rattle.step_record.specs.declared.actor.Actor.TheVariants.{Control}
 use Rattle.step_record.specs.declared.call.Call.TheVariants.{Cleanup}
 use Rattle.step_record.specs.declared.entry.Entry.{Entry}
@@ -119,7 +119,7 @@ played-end code s m n =
     ∙ ap (λ before. played_from code s before (last ∷ [])) (played-cleanups code s m n)
 
 -- a session's instances are of the stock codes
-pub stock-at : (s : Session) (i : ℕ) (inst : Inst) → IsValid s → i < length s.insts → IsStockUri (uri_at s i)
+pub stock-at : (s : Session) (i : ℕ) (inst : Inst) → IsPlayable s → i < length s.insts → IsStockUri (uri_at s i)
 stock-at s i inst valid there =
     rw (get_or-map (λ (inst : Inst). inst.uri) s.insts i inst [] there) (All-get_or (λ (inst : Inst). IsStockUri inst.uri) s.insts i inst there valid.stock)
 

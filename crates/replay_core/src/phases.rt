@@ -1,7 +1,7 @@
 ghost use Rattle.std.specs.Prelude.{◌≡◌, ◌<◌, ◌+◌, ◌^◌, ◌++◌, [], ◌∷◌, length, IfOk, OnOk};
 ghost use Rattle.step_record.specs.declared.actor.Actor.TheVariants.{Control};
 ghost use Rattle.step_record.specs.declared.call.Call.TheVariants.{Make, Activate, Deactivate, Cleanup};
-ghost use Rattle.session_script.specs.FirstPath.Valid.{IsValid};
+ghost use Rattle.session_script.specs.Playable.{IsPlayable};
 ghost use Rattle.replay_core.specs.Each.{each};
 ghost use Rattle.replay_core.specs.PlainRecord.{called, opening, cycle, stopping, closing};
 ghost use Rattle.replay_core.specs.Play.{meaning_of, played_from};
@@ -18,7 +18,7 @@ use step_record::{Actor, Call, Entry, Record, Ring};
 impl<C: Codes> Run<C> {
     /// Opens the run: control makes each instance, and then activates each.
     pub fn open(&mut self, alloc: Global, session: &Session, codes: &C) -> Result<(), NoMemory>
-        requires valid { IsValid session.now }
+        requires playable { IsPlayable session.now }
         requires running { IsRunning C.Front.uri_of session.now self.old }
         requires fresh { self.old.fronts.items ≡ [] }
         ensures plays { OnOk result
@@ -31,7 +31,7 @@ impl<C: Codes> Run<C> {
     }
 
     fn make_all(&mut self, alloc: Global, session: &Session, codes: &C) -> Result<(), NoMemory>
-        requires valid { IsValid session.now }
+        requires playable { IsPlayable session.now }
         requires running { IsRunning C.Front.uri_of session.now self.old }
         requires fresh { self.old.fronts.items ≡ [] }
         ensures plays { OnOk result
@@ -46,7 +46,7 @@ impl<C: Codes> Run<C> {
     }
 
     fn activate_all(&mut self, session: &Session) -> Result<(), NoMemory>
-        requires valid { IsValid session.now }
+        requires playable { IsPlayable session.now }
         requires running { IsRunning C.Front.uri_of session.now self.old }
         requires made { length self.old.fronts.items ≡ length session.now.insts }
         ensures plays { OnOk result
@@ -62,7 +62,7 @@ impl<C: Codes> Run<C> {
 
     /// Plays every block of the session.
     pub fn play_all(&mut self, session: &Session) -> Result<(), NoMemory>
-        requires valid { IsValid session.now }
+        requires playable { IsPlayable session.now }
         requires running { IsRunning C.Front.uri_of session.now self.old }
         requires made { length self.old.fronts.items ≡ length session.now.insts }
         ensures plays { OnOk result
@@ -78,7 +78,7 @@ impl<C: Codes> Run<C> {
 
     /// Audio stops, and then the one worker; control has seen both.
     pub fn stop(&mut self, session: &Session) -> Result<(), NoMemory>
-        requires valid { IsValid session.now }
+        requires playable { IsPlayable session.now }
         requires running { IsRunning C.Front.uri_of session.now self.old }
         requires made { length self.old.fronts.items ≡ length session.now.insts }
         ensures plays { OnOk result
@@ -99,7 +99,7 @@ impl<C: Codes> Run<C> {
 
     /// Control deactivates each instance.
     pub fn deactivate_all(&mut self, session: &Session) -> Result<(), NoMemory>
-        requires valid { IsValid session.now }
+        requires playable { IsPlayable session.now }
         requires running { IsRunning C.Front.uri_of session.now self.old }
         requires made { length self.old.fronts.items ≡ length session.now.insts }
         ensures plays { OnOk result

@@ -1,7 +1,7 @@
 ghost use Rattle.std.specs.Prelude.{◌≡◌, ◌<◌, ◌+◌, [], length, drop, IfOk, OnOk};
 ghost use Rattle.step_record.specs.declared.actor.Actor.TheVariants.{Audio, Control};
 ghost use Rattle.step_record.specs.declared.call.Call.TheVariants.{Run as RunCall, Make, Activate, Deactivate};
-ghost use Rattle.session_script.specs.FirstPath.Valid.{IsValid};
+ghost use Rattle.session_script.specs.Playable.{IsPlayable};
 ghost use Rattle.plug_api.specs.Outputs.{block_at};
 ghost use Rattle.plug_api.specs.Sound.{silence};
 ghost use Rattle.replay_core.specs.PlainRecord.{called};
@@ -28,7 +28,7 @@ pub(crate) struct Run<C: Codes> {
 impl<C: Codes> Run<C> {
     /// Nothing was done yet.
     pub fn new(alloc: Global, session: &Session) -> Result<Self, NoMemory>
-        requires { IsValid session.now }
+        requires { IsPlayable session.now }
         ensures steps { IfOk result (λ run. run.steps ≡ []) }
         ensures moment { IfOk result (λ run. moment_of run ≡ start session.now) }
         ensures running { IfOk result (IsRunning C.Front.uri_of session.now) }
@@ -50,7 +50,7 @@ impl<C: Codes> Run<C> {
         codes: &C,
         inst: u32,
     ) -> Result<(), NoMemory>
-        requires valid { IsValid session.now }
+        requires playable { IsPlayable session.now }
         requires running { IsRunning C.Front.uri_of session.now self.old }
         requires there { inst < length session.now.insts }
         requires next { length self.old.fronts.items ≡ inst }
@@ -87,7 +87,7 @@ impl<C: Codes> Run<C> {
 
     /// Runs an instance on the signals of the block so far.
     pub fn run(&mut self, session: &Session, inst: u32) -> Result<(), NoMemory>
-        requires valid { IsValid session.now }
+        requires playable { IsPlayable session.now }
         requires running { IsRunning C.Front.uri_of session.now self.old }
         requires there { inst < length session.now.insts }
         requires made { length self.old.fronts.items ≡ length session.now.insts }
