@@ -4,6 +4,10 @@ use Rattle.lv_outside.specs.declared.counts.Counts.{Counts}
 use Rattle.lv_outside.specs.declared.answer.Fetch.{Fetch}
 use Rattle.lv_outside.specs.declared.answer.Fetch.TheVariants.{Got, Absent, TooLong, Failed, NoMemory}
 
+-- nothing is counted yet
+abbrev pub no_counts : Counts
+no_counts = record { faults = 0; absences = 0; longs = 0 }
+
 -- the counts with this answer of a read
 abbrev pub counted : Counts → Fetch → Counts
 counted counts Got = counts

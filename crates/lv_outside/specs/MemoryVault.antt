@@ -3,7 +3,7 @@ use Rattle.std.specs.Prelude.{ℕ, List, [], ◌∷◌, length, Bool, ◌==◌, 
 use Rattle.std.specs.List.{list_any, position}
 use Rattle.std.specs.Map.{lookup}
 use Rattle.lv_outside.specs.Count.{next_count}
-use Rattle.lv_outside.specs.Counts.{counted}
+use Rattle.lv_outside.specs.Counts.{counted, no_counts}
 use Rattle.lv_outside.specs.declared.counts.Counts.{Counts}
 use Rattle.lv_outside.specs.declared.answer.Fetch.{Fetch}
 use Rattle.lv_outside.specs.declared.answer.Fetch.TheVariants.{Got, Absent, TooLong, Failed}
@@ -19,7 +19,7 @@ pub record VaultState : Type 0 where
 
 -- a vault with these files, before its first call
 abbrev pub new_vault : List (List ℕ × List ℕ) → List ℕ → VaultState
-new_vault files fails = record { files = files; fails = fails; calls = 0; counts = record { faults = 0; absences = 0; longs = 0 } }
+new_vault files fails = record { files = files; fails = fails; calls = 0; counts = no_counts }
 
 -- the file at a path, the first if there are several
 abbrev pub file_of : VaultState → List ℕ → Option (List ℕ)

@@ -1,11 +1,13 @@
 ghost use Rattle.std.specs.Prelude.{◌≡◌, ◌≤◌, [], length, Some, None, IfSome, false};
 ghost use Rattle.lv_outside.specs.Files.{ReadGives};
+ghost use Rattle.lv_outside.specs.Counts.{no_counts};
 
 use crate::counts::{Counts, count};
 use crate::{Fetch, Put, Vault};
 use lv_base::{Bytes, NoMemory};
 use std::fs::{File, OpenFile};
 use std::io::{ErrorKind, Read, Write};
+use std::random::RandomSource;
 use std::rt::Files;
 use std::{io, str};
 
@@ -16,14 +18,34 @@ const PIECE: usize = 16384;
 #[derive(Drop)]
 pub struct DirVault<R> {
     rt: R,
+    // Where the system gave none, every read fails.
+    seed: Option<u128>,
     counts: Counts,
 }
 
-impl<R: Files> DirVault<R> {
-    pub fn new(rt: R) -> Self {
+impl<R: Files + RandomSource> DirVault<R> {
+    /// The files that this runtime reaches, with a seed that the system gives.
+    pub fn new(rt: R) -> Self
+        ensures { result.counts ≡ no_counts }
+    {
+        let seed = seed_of(&rt);
         DirVault {
             rt,
+            seed,
             counts: Counts::default(),
+        }
+    }
+}
+
+impl<R: Files> DirVault<R> {
+    /// Reads a file, or fails where there is no seed.
+    fn fetch_seeded(&self, path: &[u8], most: u64, into: &mut Bytes) -> Fetch
+        ensures unseeded { self.now.seed ≡ None → result ≡ Fetch.Failed }
+        ensures within { result ≡ Fetch.Got → length into.new ≤ most }
+    {
+        match self.seed {
+            Some(_) => fetch(&self.rt, path, most, into),
+            None => Fetch::Failed,
         }
     }
 }
@@ -40,7 +62,7 @@ impl<R: Files> Vault for DirVault<R> {
     ghost longs = { λ vault. vault.counts.longs };
 
     fn read(&mut self, path: &[u8], most: u64, into: &mut Bytes) -> Fetch {
-        let answer = fetch(&self.rt, path, most, into);
+        let answer = self.fetch_seeded(path, most, into);
         if answer != Fetch::Got {
             into.clear();
         }
@@ -57,6 +79,17 @@ impl<R: Files> Vault for DirVault<R> {
             }
         }
     }
+
+    fn seed(&self) -> u128 {
+        self.seed.unwrap_or(0)
+    }
+}
+
+/// A seed of the system's random bytes.
+fn seed_of<R: RandomSource>(rt: &R) -> Option<u128> {
+    let mut bytes = [0; 16];
+    rt.fill_bytes(&mut bytes).ok()?;
+    Some(u128::from_le_bytes(bytes))
 }
 
 /// Reads a file. A path that isn't UTF-8 fails, and so does a folder, or what lies under something that is no folder.

@@ -159,4 +159,8 @@ impl Vault for MemVault {
         count(&mut self.counts, Fetch::Failed);
         Put::Failed
     }
+
+    fn seed(&self) -> u128 {
+        0
+    }
 }

@@ -1,4 +1,4 @@
-ghost use Rattle.std.specs.Prelude.{[], false};
+ghost use Rattle.std.specs.Prelude.{◌≡◌, [], false};
 
 use crate::{Put, Sink};
 
@@ -10,7 +10,10 @@ pub struct OutSink<R> {
 }
 
 impl<R: Print> OutSink<R> {
-    pub fn new(rt: R) -> Self {
+    /// A sink that has counted no fault yet.
+    pub fn new(rt: R) -> Self
+        ensures { result.faults ≡ 0 }
+    {
         OutSink { rt, faults: 0 }
     }
 }

@@ -49,4 +49,7 @@ pub trait Vault {
         ensures failed { Counted (faults self.old) (faults self.new) (result ≡ Put.Failed) }
         ensures absent { absences self.new ≡ absences self.old }
         ensures long { longs self.new ≡ longs self.old };
+
+    /// A seed for tables of strangers' texts, the same at each call. Nothing else is promised of it.
+    fn seed(&self) -> u128;
 }

@@ -8,4 +8,5 @@ pub mod PortTests
 pub mod Laws
 pub mod Validity
 pub mod Answers
+pub mod SomeAnswer
 pub mod Examples

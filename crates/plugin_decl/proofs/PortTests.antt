@@ -76,10 +76,10 @@ among-first rows plugin block rule p terms term is kept e =
     (found.0, found.1, broken-first rows plugin block rule (passes_at p terms) found.0 is kept (found.2, found.3))
 
 -- no rule comes before the first one
-none-before : (rows : List Triple) (plugin : Term) (block : ℕ) → AreKeptBelow rows plugin block 0
+pub none-before : (rows : List Triple) (plugin : Term) (block : ℕ) → AreKeptBelow rows plugin block 0
 none-before rows plugin block rule h = absurd (omega arith)
 
-test-no_plugin : (rows : List Triple) (plugin : Term) (block : ℕ) → IsTest rows plugin block no_plugin (λ place. not (is_a rows plugin Lv2Plugin))
+pub test-no_plugin : (rows : List Triple) (plugin : Term) (block : ℕ) → IsTest rows plugin block no_plugin (λ place. not (is_a rows plugin Lv2Plugin))
 unfolding breaks
 test-no_plugin rows plugin block = record { same = λ place. refl }
 

@@ -5,7 +5,7 @@ use lv_base::{Fixed, Items, NoMemory, Text};
 use triple_store::Term;
 
 /// What is declared of a plug-in.
-#[derive(Debug, Drop)]
+#[derive(Drop)]
 pub struct Decl {
     pub uri: Text,
     /// `doap:name`, empty without one.
@@ -28,7 +28,7 @@ pub struct Decl {
 }
 
 /// What is declared of a port.
-#[derive(Debug, PartialEq, Eq, Drop)]
+#[derive(Drop)]
 pub struct Port {
     /// From 0 to 255.
     pub index: u32,
@@ -54,7 +54,7 @@ pub struct Port {
 }
 
 /// The class of a port: the first of the four that it has, in this order.
-#[derive(Clone, Copy, Debug, PartialEq, Eq)]
+#[derive(Clone, Copy)]
 pub enum PortKind {
     Audio,
     Cv,
@@ -66,7 +66,7 @@ pub enum PortKind {
 
 /// Why the triples declare no plug-in that can be run: the first broken rule, in this order. A rule goes through all ports before
 /// the next one.
-#[derive(Debug, PartialEq, Eq, Drop)]
+#[derive(Drop)]
 pub enum DeclFault {
     /// The URI isn't an `lv2:Plugin`.
     NoPlugin,

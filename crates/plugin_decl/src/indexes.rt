@@ -27,12 +27,32 @@ impl<'a> Plugin<'a> {
         ensures few { IfOk result (λ ports. length ports ≤ MOST_PORTS) }
     {
         let ports = self.ports_in_rows(alloc)?;
-        let indexes = indexes(alloc, self.store, ports.as_slice())?;
-        self.check_each_index(indexes.as_slice())?;
-        self.check_distinct(indexes.as_slice())?;
-        self.check_gaps(indexes.as_slice())?;
-        let ordered = self.in_order(alloc, ports.as_slice(), indexes.as_slice())?;
-        Ok(ordered)
+        self.by_index(alloc, ports.as_slice())
+    }
+
+    /// These ports in order of index, or the first broken rule on indexes.
+    fn by_index(&self, alloc: Global, ports: &[Term]) -> Result<Items<Term>, DeclFault>
+        requires ports { ports.now ≡ ports_in_rows self.now.store.now self.now.term.now }
+        requires kept { AreKeptBelow self.now.store.now self.now.term.now self.now.block 1 }
+        ensures checked { Checked self.now.store.now self.now.term.now self.now.block 4 result }
+        ensures ports { IfOk result (λ ports. ports ≡ ports_of self.now.store.now self.now.term.now) }
+        ensures few { IfOk result (λ ports. length ports ≤ MOST_PORTS) }
+    {
+        let indexes = indexes(alloc, self.store, ports)?;
+        self.check_indexes(indexes.as_slice())?;
+        Ok(self.in_order(alloc, ports, indexes.as_slice())?)
+    }
+
+    /// The rules on indexes, in their order.
+    fn check_indexes(&self, indexes: &[Option<u32>]) -> Result<(), DeclFault>
+        requires indexes { indexes.now ≡ indexes_of self.now.store.now self.now.term.now }
+        requires kept { AreKeptBelow self.now.store.now self.now.term.now self.now.block 1 }
+        ensures checked { Checked self.now.store.now self.now.term.now self.now.block 4 result }
+        ensures few { OnOk result (length indexes.now ≤ MOST_PORTS) }
+    {
+        self.check_each_index(indexes)?;
+        self.check_distinct(indexes)?;
+        self.check_gaps(indexes)
     }
 
     /// The ports, in order of the triples.

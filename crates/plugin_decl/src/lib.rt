@@ -18,7 +18,4 @@ mod vocabulary;
 pub use declaration::{Decl, DeclFault, Port, PortKind};
 pub use message_ports::{patch_port, reply_port};
 pub use options::{Options, options_of};
-pub use reader::{declare, one_answer};
-
-#[cfg(test)]
-mod tests;
+pub use reader::{declare, one_answer, some_answer};

@@ -1,7 +1,7 @@
 ghost use Rattle.std.specs.Prelude.{◌≡◌, ◌<◌, ◌^◌, pos};
 
 /// What an instance is told of the block's length, as integers: `bufsz:maxBlockLength` and `bufsz:minBlockLength`.
-#[derive(Clone, Copy, Debug, PartialEq, Eq)]
+#[derive(Clone, Copy)]
 pub struct Options {
     pub most: i32,
     pub least: i32,

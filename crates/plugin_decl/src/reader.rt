@@ -1,11 +1,11 @@
-ghost use Rattle.std.specs.Prelude.{◌≡◌, ◌≤◌, ℕ, List, length, map, IfOk, IfErr, OnOk};
+ghost use Rattle.std.specs.Prelude.{◌≡◌, ◌≤◌, ◌⊎◌, ℕ, List, length, map, IfOk, IfErr, OnOk};
 ghost use Rattle.triple_store.specs.declared.term.Term.{Term};
 ghost use Rattle.triple_store.specs.declared.term.Term.TheVariants.{Iri};
 ghost use Rattle.triple_store.specs.declared.term.Triple.{Triple};
 ghost use Rattle.plugin_decl.specs.declared.declaration.DeclFault.{DeclFault};
 ghost use Rattle.plugin_decl.specs.Declaration.{stated_version, version, extends, has_feature, is_safe, iris_of, ports_of, declared_ports, declaration_of};
 ghost use Rattle.plugin_decl.specs.Ports.{port_of};
-ghost use Rattle.plugin_decl.specs.Rules.{AreAllKept, IsFirstBroken, IsCause};
+ghost use Rattle.plugin_decl.specs.Rules.{AreKeptBelow, AreAllKept, IsFirstBroken, IsCause};
 ghost use Rattle.plugin_decl.specs.Checks.{Checked};
 ghost use Rattle.plugin_decl.specs.Answer.{IsDeclOrNoMemory, IsFaultOrNoMemory};
 ghost use Rattle.plugin_decl.specs.Valid.{IsValid};
@@ -44,10 +44,15 @@ pub fn declare(alloc: Global, store: &Store, uri: &Text, block: u32) -> Result<D
     plugin.declare(alloc, uri)
 }
 
-/// A law, and no step of a program: the triples of a URI have one answer.
+/// A law, and no step of a program: the triples of a URI have at most one answer.
 pub fn one_answer()
     ensures fault { (rows : List Triple) (plugin : Term) (block : ℕ) (a b : DeclFault) → IsFirstBroken rows plugin block a → IsFirstBroken rows plugin block b → a ≡ b }
     ensures not_both { (rows : List Triple) (plugin : Term) (block : ℕ) (fault : DeclFault) → AreAllKept rows plugin block → ¬ IsFirstBroken rows plugin block fault }
+{}
+
+/// A law, and no step of a program: the triples of a URI have an answer.
+pub fn some_answer()
+    ensures { (rows : List Triple) (plugin : Term) (block : ℕ) → AreAllKept rows plugin block ⊎ ((fault : DeclFault) × IsFirstBroken rows plugin block fault) }
 {}
 
 fn iri_of(uri: &Text) -> Result<Term, NoMemory>
@@ -76,13 +81,36 @@ impl<'a> Plugin<'a> {
     {
         self.check_class()?;
         let nodes = self.ports_by_index(alloc)?;
-        let ports = declared(alloc, self.store, nodes.as_slice())?;
-        self.check_ports(nodes.as_slice(), ports.as_slice())?;
+        let ports = self.judged_ports(alloc, nodes.as_slice())?;
+        Ok(self.declaration(alloc, uri, ports)?)
+    }
+
+    /// What is declared of these ports, or the first broken rule behind those on indexes.
+    fn judged_ports(&self, alloc: Global, nodes: &[Term]) -> Result<Items<Port>, DeclFault>
+        requires nodes { nodes.now ≡ ports_of self.now.store.now self.now.term.now }
+        requires few { length nodes.now ≤ MOST_PORTS }
+        requires kept { AreKeptBelow self.now.store.now self.now.term.now self.now.block 4 }
+        ensures checked { Checked self.now.store.now self.now.term.now self.now.block 13 result }
+        ensures ports { IfOk result (λ ports. ports ≡ declared_ports self.now.store.now self.now.term.now) }
+    {
+        let ports = declared(alloc, self.store, nodes)?;
+        self.check_behind_indexes(nodes, ports.as_slice())?;
+        Ok(ports)
+    }
+
+    /// The rules behind those on indexes.
+    fn check_behind_indexes(&self, nodes: &[Term], ports: &[Port]) -> Result<(), DeclFault>
+        requires nodes { nodes.now ≡ ports_of self.now.store.now self.now.term.now }
+        requires ports { ports.now ≡ declared_ports self.now.store.now self.now.term.now }
+        requires few { length nodes.now ≤ MOST_PORTS }
+        requires few_ports { length ports.now ≤ MOST_PORTS }
+        requires kept { AreKeptBelow self.now.store.now self.now.term.now self.now.block 4 }
+        ensures { Checked self.now.store.now self.now.term.now self.now.block 13 result }
+    {
+        self.check_ports(nodes, ports)?;
         self.check_features()?;
         self.check_options()?;
-        self.check(PortRule::Value, nodes.as_slice())?;
-        let decl = self.declaration(alloc, uri, ports)?;
-        Ok(decl)
+        self.check(PortRule::Value, nodes)
     }
 
     /// The declaration with these ports.

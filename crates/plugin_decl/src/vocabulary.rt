@@ -54,64 +54,63 @@ pub enum Word {
     DoapName,
 }
 
+/// Their IRIs in full, in order of the terms.
+const IRIS: [&str; 46] = [
+    "http://www.w3.org/1999/02/22-rdf-syntax-ns#type",
+    "http://lv2plug.in/ns/lv2core#Plugin",
+    "http://lv2plug.in/ns/lv2core#port",
+    "http://lv2plug.in/ns/lv2core#index",
+    "http://lv2plug.in/ns/lv2core#symbol",
+    "http://lv2plug.in/ns/lv2core#name",
+    "http://lv2plug.in/ns/lv2core#InputPort",
+    "http://lv2plug.in/ns/lv2core#OutputPort",
+    "http://lv2plug.in/ns/lv2core#AudioPort",
+    "http://lv2plug.in/ns/lv2core#CVPort",
+    "http://lv2plug.in/ns/lv2core#ControlPort",
+    "http://lv2plug.in/ns/lv2core#portProperty",
+    "http://lv2plug.in/ns/lv2core#connectionOptional",
+    "http://lv2plug.in/ns/lv2core#designation",
+    "http://lv2plug.in/ns/lv2core#control",
+    "http://lv2plug.in/ns/lv2core#default",
+    "http://lv2plug.in/ns/lv2core#minimum",
+    "http://lv2plug.in/ns/lv2core#maximum",
+    "http://lv2plug.in/ns/lv2core#minorVersion",
+    "http://lv2plug.in/ns/lv2core#microVersion",
+    "http://lv2plug.in/ns/lv2core#requiredFeature",
+    "http://lv2plug.in/ns/lv2core#optionalFeature",
+    "http://lv2plug.in/ns/lv2core#hardRTCapable",
+    "http://lv2plug.in/ns/lv2core#inPlaceBroken",
+    "http://lv2plug.in/ns/lv2core#isLive",
+    "http://lv2plug.in/ns/lv2core#extensionData",
+    "http://lv2plug.in/ns/ext/atom#AtomPort",
+    "http://lv2plug.in/ns/ext/atom#supports",
+    "http://lv2plug.in/ns/ext/worker#schedule",
+    "http://lv2plug.in/ns/ext/worker#interface",
+    "http://lv2plug.in/ns/ext/state#interface",
+    "http://lv2plug.in/ns/ext/state#threadSafeRestore",
+    "http://lv2plug.in/ns/ext/patch#Message",
+    "http://lv2plug.in/ns/ext/patch#readable",
+    "http://lv2plug.in/ns/ext/patch#writable",
+    "http://lv2plug.in/ns/ext/urid#map",
+    "http://lv2plug.in/ns/ext/urid#unmap",
+    "http://lv2plug.in/ns/ext/options#options",
+    "http://lv2plug.in/ns/ext/options#requiredOption",
+    "http://lv2plug.in/ns/ext/buf-size#boundedBlockLength",
+    "http://lv2plug.in/ns/ext/buf-size#fixedBlockLength",
+    "http://lv2plug.in/ns/ext/buf-size#powerOf2BlockLength",
+    "http://lv2plug.in/ns/ext/buf-size#maxBlockLength",
+    "http://lv2plug.in/ns/ext/buf-size#minBlockLength",
+    "http://lv2plug.in/ns/ext/resize-port#minimumSize",
+    "http://usefulinc.com/ns/doap#name",
+];
+
 impl Word {
     /// The IRI in full.
     #[tactic(auto, unfolding(crate::specs::Vocabulary::iri_of))]
     pub(crate) fn iri(self) -> &'static str
         ensures { result.now ≡ iri_of self }
     {
-        match self {
-            Word::RdfType => "http://www.w3.org/1999/02/22-rdf-syntax-ns#type",
-            Word::Lv2Plugin => "http://lv2plug.in/ns/lv2core#Plugin",
-            Word::Lv2Port => "http://lv2plug.in/ns/lv2core#port",
-            Word::Lv2Index => "http://lv2plug.in/ns/lv2core#index",
-            Word::Lv2Symbol => "http://lv2plug.in/ns/lv2core#symbol",
-            Word::Lv2Name => "http://lv2plug.in/ns/lv2core#name",
-            Word::Lv2InputPort => "http://lv2plug.in/ns/lv2core#InputPort",
-            Word::Lv2OutputPort => "http://lv2plug.in/ns/lv2core#OutputPort",
-            Word::Lv2AudioPort => "http://lv2plug.in/ns/lv2core#AudioPort",
-            Word::Lv2CvPort => "http://lv2plug.in/ns/lv2core#CVPort",
-            Word::Lv2ControlPort => "http://lv2plug.in/ns/lv2core#ControlPort",
-            Word::Lv2PortProperty => "http://lv2plug.in/ns/lv2core#portProperty",
-            Word::Lv2ConnectionOptional => "http://lv2plug.in/ns/lv2core#connectionOptional",
-            Word::Lv2Designation => "http://lv2plug.in/ns/lv2core#designation",
-            Word::Lv2Control => "http://lv2plug.in/ns/lv2core#control",
-            Word::Lv2Default => "http://lv2plug.in/ns/lv2core#default",
-            Word::Lv2Minimum => "http://lv2plug.in/ns/lv2core#minimum",
-            Word::Lv2Maximum => "http://lv2plug.in/ns/lv2core#maximum",
-            Word::Lv2MinorVersion => "http://lv2plug.in/ns/lv2core#minorVersion",
-            Word::Lv2MicroVersion => "http://lv2plug.in/ns/lv2core#microVersion",
-            Word::Lv2RequiredFeature => "http://lv2plug.in/ns/lv2core#requiredFeature",
-            Word::Lv2OptionalFeature => "http://lv2plug.in/ns/lv2core#optionalFeature",
-            Word::Lv2HardRtCapable => "http://lv2plug.in/ns/lv2core#hardRTCapable",
-            Word::Lv2InPlaceBroken => "http://lv2plug.in/ns/lv2core#inPlaceBroken",
-            Word::Lv2IsLive => "http://lv2plug.in/ns/lv2core#isLive",
-            Word::Lv2ExtensionData => "http://lv2plug.in/ns/lv2core#extensionData",
-            Word::AtomAtomPort => "http://lv2plug.in/ns/ext/atom#AtomPort",
-            Word::AtomSupports => "http://lv2plug.in/ns/ext/atom#supports",
-            Word::WorkSchedule => "http://lv2plug.in/ns/ext/worker#schedule",
-            Word::WorkInterface => "http://lv2plug.in/ns/ext/worker#interface",
-            Word::StateInterface => "http://lv2plug.in/ns/ext/state#interface",
-            Word::StateThreadSafeRestore => "http://lv2plug.in/ns/ext/state#threadSafeRestore",
-            Word::PatchMessage => "http://lv2plug.in/ns/ext/patch#Message",
-            Word::PatchReadable => "http://lv2plug.in/ns/ext/patch#readable",
-            Word::PatchWritable => "http://lv2plug.in/ns/ext/patch#writable",
-            Word::UridMap => "http://lv2plug.in/ns/ext/urid#map",
-            Word::UridUnmap => "http://lv2plug.in/ns/ext/urid#unmap",
-            Word::OptionsOptions => "http://lv2plug.in/ns/ext/options#options",
-            Word::OptionsRequiredOption => "http://lv2plug.in/ns/ext/options#requiredOption",
-            Word::BufszBoundedBlockLength => {
-                "http://lv2plug.in/ns/ext/buf-size#boundedBlockLength"
-            }
-            Word::BufszFixedBlockLength => "http://lv2plug.in/ns/ext/buf-size#fixedBlockLength",
-            Word::BufszPowerOf2BlockLength => {
-                "http://lv2plug.in/ns/ext/buf-size#powerOf2BlockLength"
-            }
-            Word::BufszMaxBlockLength => "http://lv2plug.in/ns/ext/buf-size#maxBlockLength",
-            Word::BufszMinBlockLength => "http://lv2plug.in/ns/ext/buf-size#minBlockLength",
-            Word::RszMinimumSize => "http://lv2plug.in/ns/ext/resize-port#minimumSize",
-            Word::DoapName => "http://usefulinc.com/ns/doap#name",
-        }
+        IRIS[self as usize]
     }
 
     /// Whether a term is this IRI.

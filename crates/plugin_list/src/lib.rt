@@ -9,6 +9,3 @@ mod words;
 pub use listing::{push_count, push_plugin};
 pub use rule::push_rule;
 pub use uris::plugins;
-
-#[cfg(test)]
-mod tests;

@@ -1,10 +1,11 @@
-ghost use Rattle.std.specs.Prelude.{◌≡◌, IfOk};
+ghost use Rattle.std.specs.Prelude.{◌≡◌, ◌++◌, IfOk, OnOk};
+ghost use Rattle.std.specs.List.{filter_map};
 ghost use Rattle.triple_store.specs.declared.term.Term.TheVariants.{Iri};
-ghost use Rattle.plugin_list.specs.Plugins.{plugins_of};
+ghost use Rattle.plugin_list.specs.Plugins.{subject_iri, plugins_of};
 
 use lv_base::{Items, NoMemory, Text};
 use std::alloc::Global;
-use triple_store::{Store, Term};
+use triple_store::{Matching, Store, Term};
 
 /// `rdf:type`.
 const RDF_TYPE: &str = "http://www.w3.org/1999/02/22-rdf-syntax-ns#type";
@@ -14,19 +15,33 @@ const LV2_PLUGIN: &str = "http://lv2plug.in/ns/lv2core#Plugin";
 /// The IRIs that are an `lv2:Plugin`, in order of the rows that say so. A blank node that is one has no IRI, and isn't listed.
 ///
 /// The time is in proportion to the rows of the store.
-#[tactic(auto, unfolding(plugin_decl::specs::Vocabulary::iri_of))]
 pub fn plugins(alloc: Global, store: &Store) -> Result<Items<Text>, NoMemory>
     ensures { IfOk result (λ uris. uris ≡ plugins_of store.now) }
 {
+    let mut uris = Items::new(alloc);
+    push_plugins(alloc, store, &mut uris)?;
+    Ok(uris)
+}
+
+#[tactic(auto, unfolding(plugin_decl::specs::Vocabulary::iri_of))]
+fn push_plugins(alloc: Global, store: &Store, uris: &mut Items<Text>) -> Result<(), NoMemory>
+    ensures { OnOk result (uris.new ≡ uris.old ++ plugins_of store.now) }
+{
     let predicate = iri(alloc, RDF_TYPE)?;
     let class = iri(alloc, LV2_PLUGIN)?;
-    let mut uris = Items::new(alloc);
-    for row in store.matching(None, Some(&predicate), Some(&class)) {
+    push_subjects(store.matching(None, Some(&predicate), Some(&class)), uris)
+}
+
+/// Adds the IRIs of these rows' subjects, where they have one.
+fn push_subjects(rows: Matching<'_>, uris: &mut Items<Text>) -> Result<(), NoMemory>
+    ensures { OnOk result (uris.new ≡ uris.old ++ filter_map subject_iri rows.entry) }
+{
+    for row in rows {
         if let Term::Iri(uri) = &row.s {
             uris.push(uri.clone()?)?;
         }
     }
-    Ok(uris)
+    Ok(())
 }
 
 fn iri(alloc: Global, characters: &str) -> Result<Term, NoMemory>

@@ -1,4 +1,5 @@
 pub mod Inside
 pub mod Loading
 pub mod Once
+pub mod OneLoading
 pub mod Plugins

@@ -1,5 +1,5 @@
 -- Files that are read one after another, and what is said of a vault from its first state on.
-use Rattle.std.proofs.Common.{◌≡◌, ℕ, ◌+◌, ◌<◌, ◌≤◌, List, [], ◌∷◌, ◌++◌, length, take, drop, get_or, refl, ap, sym, subst, ◌∙◌, arith, add-one, inl, inr}
+use Rattle.std.proofs.Common.{◌≡◌, ℕ, ◌+◌, ◌<◌, ◌≤◌, List, [], ◌∷◌, ◌++◌, length, take, drop, get_or, Result, Ok, Err, IfErr, OnOk, refl, ap, sym, subst, ◌∙◌, arith, add-one, inl, inr}
 use Rattle.std.proofs.lemmas.List.{take_more, take-append-drop}
 use Rattle.std.proofs.Math.Seq.{drop-cons}
 use Rattle.lv_outside.specs.Count.{Rose}
@@ -101,12 +101,17 @@ stops v m v' at names k name first before fault h within e all r = record {
 }
 
 -- the whole of a bundle: its manifest, then what that names
-pub unloaded-first : (v v' : VaultState) (path : List ℕ) (number : ℕ) (fault : LoadFault) → IsRefused v v' (place number path) manifest [] fault → IsUnloaded v v' path number fault
-unloaded-first v v' path number (Missing p) r = inl r
-unloaded-first v v' path number (ReadFailed p) r = inl r
-unloaded-first v v' path number (TooLong p) r = inl r
-unloaded-first v v' path number (Turtle p f) r = inl r
-unloaded-first v v' path number NoMemory r = tt
+first : (v v' : VaultState) (path : List ℕ) (number : ℕ) (fault : LoadFault) → IsRefused v v' (place number path) manifest [] fault → IsUnloaded v v' path number fault
+first v v' path number (Missing p) r = inl r
+first v v' path number (ReadFailed p) r = inl r
+first v v' path number (TooLong p) r = inl r
+first v v' path number (Turtle p f) r = inl r
+first v v' path number NoMemory r = tt
+
+pub unloaded-first : (v v' : VaultState) (path : List ℕ) (number : ℕ) (none : List Triple) (fault : LoadFault) → none ≡ []
+    → IsRefused v v' (place number path) manifest none fault → IsUnloaded v v' path number fault
+unloaded-first v v' path number none fault e r =
+    first v v' path number fault (subst (λ (before : List Triple). IsRefused v v' (place number path) manifest before fault) e r)
 
 behind : (v v' : VaultState) (path : List ℕ) (number : ℕ) (fault : LoadFault) → StopsBehind v v' (place number path) fault → IsUnloaded v v' path number fault
 behind v v' path number (Missing p) s = inr s
@@ -127,7 +132,7 @@ stops-earlier v m v' at names first fault h s = record {
   refused = refused-earlier v m v' at s.name s.before fault h s.refused;
 }
 
-pub unloaded-behind : (v m v' : VaultState) (path : List ℕ) (number : ℕ) (names : List (List ℕ)) (first : List Triple) (fault : LoadFault) → IsLater v m
+unloaded-behind : (v m v' : VaultState) (path : List ℕ) (number : ℕ) (names : List (List ℕ)) (first : List Triple) (fault : LoadFault) → IsLater v m
     → Adds v (place number path) manifest [] first → names ≡ files_named number first → StopsAt m v' (place number path) names first fault
     → IsUnloaded v v' path number fault
 unloaded-behind v m v' path number names first fault h named e s =
@@ -138,7 +143,7 @@ unloaded-behind v m v' path number names first fault h named e s =
       stops = subst (λ ns. StopsAt v v' (place number path) ns first fault) e (stops-earlier v m v' (place number path) names first fault h s);
     })
 
-pub has-rows : (v m : VaultState) (path : List ℕ) (number : ℕ) (names : List (List ℕ)) (first rows : List Triple) → IsLater v m
+has-rows : (v m : VaultState) (path : List ℕ) (number : ℕ) (names : List (List ℕ)) (first rows : List Triple) → IsLater v m
     → Adds v (place number path) manifest [] first → names ≡ files_named number first → AddAll m (place number path) names first rows
     → HasRows v (place number path) rows
 has-rows v m path number names first rows h named e all = record {
@@ -146,3 +151,26 @@ has-rows v m path number names first rows h named e all = record {
   named = named;
   all = subst (λ ns. AddAll v (place number path) ns first rows) e (all-earlier v m (place number path) names first rows h all);
 }
+
+-- the manifest was read, behind no rows, and names these files: what comes of the others is what comes of the bundle
+pub record IsRead (v m : VaultState) (path : List ℕ) (number : ℕ) (names : List (List ℕ)) (none first : List Triple) : Type 0 where
+  pub later : IsLater v m
+  pub begins : none ≡ []
+  pub manifest : Adds v (place number path) manifest none first
+  pub named : names ≡ files_named number first
+
+of_none : (v m : VaultState) (path : List ℕ) (number : ℕ) (names : List (List ℕ)) (none first : List Triple) → IsRead v m path number names none first
+    → Adds v (place number path) manifest [] first
+of_none v m path number names none first x = subst (λ (before : List Triple). Adds v (place number path) manifest before first) x.begins x.manifest
+
+pub rows-of : (v m : VaultState) (path : List ℕ) (number : ℕ) (names : List (List ℕ)) (none first rows : List Triple) (r : Result (Unit {0}) LoadFault)
+    → IsRead v m path number names none first → OnOk r (AddAll m (place number path) names first rows) → OnOk r (HasRows v (place number path) rows)
+rows-of v m path number names none first rows (Ok done) x all =
+    has-rows v m path number names first rows x.later (of_none v m path number names none first x) x.named all
+rows-of v m path number names none first rows (Err fault) x all = tt
+
+pub fault-of : (v m v' : VaultState) (path : List ℕ) (number : ℕ) (names : List (List ℕ)) (none first : List Triple) (r : Result (Unit {0}) LoadFault)
+    → IsRead v m path number names none first → IfErr r (StopsAt m v' (place number path) names first) → IfErr r (IsUnloaded v v' path number)
+fault-of v m v' path number names none first (Ok done) x stops = tt
+fault-of v m v' path number names none first (Err fault) x stops =
+    unloaded-behind v m v' path number names first fault x.later (of_none v m path number names none first x) x.named stops

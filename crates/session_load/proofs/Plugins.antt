@@ -1,5 +1,5 @@
 -- The subjects of a class, looked up in a set.
-use Rattle.std.proofs.Common.{◌≡◌, Bool, true, false, cond, ◌&&◌, ◌||◌, List, [], ◌∷◌, ◌++◌, map, filter, None, Some, refl, ap, sym, subst, ◌∙◌}
+use Rattle.std.proofs.Common.{◌≡◌, Bool, true, false, cond, ◌&&◌, ◌||◌, List, [], ◌∷◌, ◌++◌, map, filter, None, Some, Result, Ok, Err, OnOk, refl, ap, sym, subst, ◌∙◌}
 use Rattle.std.specs.List.{list_any}
 use Rattle.std.proofs.lemmas.List.Folds.{list_any-append}
 use Rattle.indexmap.specs.IndexSet.{insert_key}
@@ -12,9 +12,7 @@ use Rattle.triple_store.proofs.SameTerm.{eq_of_terms, same_term-true}
 use Rattle.plugin_decl.specs.declared.vocabulary.Word.TheVariants.{RdfType, Lv2Plugin}
 use Rattle.plugin_decl.specs.Vocabulary.{iri_of, names}
 use Rattle.plugin_decl.specs.Objects.{object, objects_of, has, is_a}
-
-abbrev pub subject : Triple → Term
-subject row = row.s
+use Rattle.session_load.specs.Names.{subject}
 
 -- one row, by what its three terms are
 step : (a b c : Bool) (s : Term) (row : Triple) (left right : List Triple) → same_term s row.s ≡ a → names Lv2Plugin row.o ≡ c
@@ -62,17 +60,18 @@ found q k keys false e = list_any-append (same_term q) keys (k ∷ []) ∙ ap (�
     either true = refl
     either false = refl
 
-abbrev pub FindsEach : List Term → List Triple → List Triple → Type 0
-FindsEach keys left rows = (s : Term) → list_any (same_term s) (keys ++ map subject left) ≡ is_a rows s Lv2Plugin
+-- the terms of a set, and the subjects of the rows that are left
+abbrev pub finds : List Term → List Triple → Term → Bool
+finds keys left s = list_any (same_term s) (keys ++ map subject left)
 
 or_assoc : (a b c : Bool) → ((a || b) || c) ≡ (a || (b || c))
 or_assoc true b c = refl
 or_assoc false b c = refl
 
 -- a row's subject goes from those that are left into the set
-pub finds-insert : (keys more : List Term) (k : Term) (row : Triple) (left rows : List Triple) → FindsEach keys (row ∷ left) rows
-    → k ≡ row.s → more ≡ insert_key term_eq.it keys k → FindsEach more left rows
-finds-insert keys more k row left rows h e m q =
+pub finds-insert : (keys more : List Term) (k : Term) (row : Triple) (left : List Triple) → k ≡ row.s → more ≡ insert_key term_eq.it keys k
+    → (s : Term) → finds more left s ≡ finds keys (row ∷ left) s
+finds-insert keys more k row left e m q =
     let same : more ≡ insert_key same_term keys k = m ∙ ap (λ eq. insert_key eq keys k) eq_of_terms in
     ap (λ ks. list_any (same_term q) (ks ++ map subject left)) same
     ∙ list_any-append (same_term q) (insert_key same_term keys k) (map subject left)
@@ -80,4 +79,15 @@ finds-insert keys more k row left rows h e m q =
     ∙ or_assoc (list_any (same_term q) keys) (same_term q k) (list_any (same_term q) (map subject left))
     ∙ ap (λ t. list_any (same_term q) keys || (same_term q t || list_any (same_term q) (map subject left))) e
     ∙ sym (list_any-append (same_term q) keys (row.s ∷ map subject left))
-    ∙ h q
+
+append_nil : (terms : List Term) → terms ++ [] ≡ terms
+append_nil [] = refl
+append_nil (term ∷ terms) = ap (λ rest. term ∷ rest) (append_nil terms)
+
+pub finds-end : (keys : List Term) (left : List Triple) → left ≡ [] → (s : Term) → list_any (same_term s) keys ≡ finds keys left s
+finds-end keys left e s = sym (ap (λ rest. finds keys rest s) e ∙ ap (list_any (same_term s)) (append_nil keys))
+
+-- what a call leaves if it ends well
+pub then-ok : {A E : Type 0} (P Q : Type 0) (r : Result A E) → (P → Q) → OnOk r P → OnOk r Q
+then-ok P Q (Ok x) f h = f h
+then-ok P Q (Err e) f h = tt

@@ -5,7 +5,7 @@ use Rattle.std.specs.Str.{is_utf8, bytes_eq}
 use Rattle.percent_encoding.specs.Percent.{percent_decode}
 use Rattle.plugin_decl.specs.Objects.{is_a}
 use Rattle.plugin_decl.specs.declared.vocabulary.Word.TheVariants.{Lv2Plugin}
-use Rattle.triple_store.specs.Triples.{agrees}
+use Rattle.triple_store.specs.Triples.{agrees, same_term}
 use Rattle.triple_store.specs.declared.term.Term.{Term}
 use Rattle.triple_store.specs.declared.term.Term.TheVariants.{Iri}
 use Rattle.triple_store.specs.declared.term.Triple.{Triple}
@@ -55,9 +55,22 @@ abbrev pub file_by : List ℕ → Term → Option (List ℕ)
 file_by folder (Iri iri) = file_named folder iri
 file_by folder other = None
 
+-- the subject of a row
+abbrev pub subject : Triple → Term
+subject row = row.s
+
+-- the file that a row names, if its subject is one of these plug-ins
+abbrev pub file_of : List Term → List ℕ → Triple → Option (List ℕ)
+file_of plugins folder row = if list_any (same_term row.s) plugins then file_by folder row.o else None
+
 -- the file that a row names, if its subject is a plug-in
 abbrev pub file_at : List ℕ → List Triple → Triple → Option (List ℕ)
 file_at folder rows row = if is_a rows row.s Lv2Plugin then file_by folder row.o else None
+
+-- a name behind those before it, unless it is one of them
+abbrev pub joined : List (List ℕ) → Option (List ℕ) → List (List ℕ)
+joined before None = before
+joined before (Some name) = if list_any (bytes_eq name) before then before else before ++ name ∷ []
 
 -- each name once, but none that was there before
 abbrev pub each_once : List (List ℕ) → List (List ℕ) → List (List ℕ)

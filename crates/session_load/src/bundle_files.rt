@@ -1,9 +1,10 @@
-ghost use Rattle.std.specs.Prelude.{◌≡◌, ◌≤◌, ℕ, List, true, All, IfOk, IfErr, OnOk, IsTrue};
+ghost use Rattle.std.specs.Prelude.{◌≡◌, ◌≤◌, ℕ, List, [], true, All, IfOk, IfErr, OnOk, IsTrue};
 ghost use Rattle.lv_outside.specs.World.{vault_at, LeavesFiles};
 ghost use Rattle.triple_store.specs.declared.term.Triple.{Triple};
 ghost use Rattle.turtle_document.specs.Answer.Outcome.{document};
-ghost use Rattle.session_load.specs.Names.{path_of, file_iri, is_inside, files_named};
-ghost use Rattle.session_load.specs.Bundle.{IsLater, Adds, AddAll, Reads, cause, IsMisread, IsRefused, StopsAt, place, IsBundle, IsUnloaded};
+ghost use Rattle.session_load.specs.Names.{manifest, path_of, file_iri, is_inside, files_named};
+ghost use Rattle.session_load.specs.OneAnswer.{HasOneAnswer};
+ghost use Rattle.session_load.specs.Bundle.{IsLater, Adds, AddAll, Reads, cause, IsMisread, IsRefused, StopsAt, place, HasRows, IsBundle, IsUnloaded};
 
 use crate::fault::LoadFault;
 use crate::file_name::FileName;
@@ -53,18 +54,20 @@ pub fn bundle<V: Vault>(
         path,
         number,
     };
-    let mut store = Store::new(alloc);
-    let manifest = FileName::manifest(alloc)?;
-    folder.read_file(&manifest, vault, &mut store)?;
-    let files = files_named(alloc, number, &store)?;
-    let named = &files.as_slice()[1..];
-    folder.read_files(named, vault, &mut store)?;
+    let mut store = Store::with_seed(alloc, vault.seed());
+    folder.read_bundle(vault, &mut store)?;
     Ok(store)
 }
 
 /// A law, and no step of a program: no file that a manifest names lies outside the bundle.
 pub fn stays_inside()
     ensures { (number : ℕ) (rows : List Triple) → All (λ name. is_inside name ≡ true) (files_named number rows) }
+{}
+
+/// A law, and no step of a program: the files of a known vault give a bundle at most one list of rows or first fault, and not both.
+/// A read that failed and want of memory aren't theirs.
+pub fn one_answer()
+    ensures { HasOneAnswer }
 {}
 
 /// The folder of a bundle.
@@ -78,6 +81,35 @@ struct Folder<'a> {
 }
 
 impl<'a> Folder<'a> {
+    /// Reads the manifest, and then the files that it names.
+    fn read_bundle<V: Vault>(&self, vault: &mut V, store: &mut Store) -> Result<(), LoadFault>
+        requires { store.old ≡ [] }
+        ensures ok { OnOk result (HasRows (vault_at V.tells V.file V.faults V.absences V.longs vault.old)
+            (place self.now.number self.now.path.now) store.new) }
+        ensures err { IfErr result (IsUnloaded (vault_at V.tells V.file V.faults V.absences V.longs vault.old)
+            (vault_at V.tells V.file V.faults V.absences V.longs vault.new) self.now.path.now self.now.number) }
+        ensures later { IsLater (vault_at V.tells V.file V.faults V.absences V.longs vault.old)
+            (vault_at V.tells V.file V.faults V.absences V.longs vault.new) }
+    {
+        self.read_manifest(vault, store)?;
+        let files = files_named(self.alloc, self.number, store)?;
+        let named = &files.as_slice()[1..];
+        self.read_files(named, vault, store)
+    }
+
+    fn read_manifest<V: Vault>(&self, vault: &mut V, store: &mut Store) -> Result<(), LoadFault>
+        ensures ok { OnOk result (Adds (vault_at V.tells V.file V.faults V.absences V.longs vault.old)
+            (place self.now.number self.now.path.now) manifest store.old store.new) }
+        ensures err { IfErr result (IsRefused (vault_at V.tells V.file V.faults V.absences V.longs vault.old)
+            (vault_at V.tells V.file V.faults V.absences V.longs vault.new)
+            (place self.now.number self.now.path.now) manifest store.old) }
+        ensures later { IsLater (vault_at V.tells V.file V.faults V.absences V.longs vault.old)
+            (vault_at V.tells V.file V.faults V.absences V.longs vault.new) }
+    {
+        let manifest = FileName::manifest(self.alloc)?;
+        self.read_file(&manifest, vault, store)
+    }
+
     /// Reads some files in order, up to the first that can't be read.
     fn read_files<V: Vault>(
         &self,

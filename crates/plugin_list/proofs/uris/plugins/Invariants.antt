@@ -1,8 +1,0 @@
-use Rattle.std.proofs.Common.{◌≡◌, ◌++◌}
-use Rattle.std.specs.List.{filter_map}
-use Rattle.plugin_list.specs.Plugins.{subject_iri, plugins_of}
-use Rattle.plugin_list.proofs.uris.plugins.Given as goal
-
--- the IRIs so far, and those of the rows that are left
-abbrev pub invariant-loop-row : goal.invariant-loop-row
-invariant-loop-row l = (goal.iterator-loop-row).can_next l.row-iterator × (goal.iterator-loop-row).is_finite l.row-iterator × (l.uris ++ filter_map subject_iri l.row-iterator ≡ plugins_of l.store)
