@@ -5,5 +5,5 @@ mod record;
 mod text;
 
 pub use record::Record;
-pub use step_law::{Actor, Call, Entry, Kind, Ring};
+pub use step_law::{Actor, Call, Entry, Event, Kind, Ring};
 pub use text::write;
