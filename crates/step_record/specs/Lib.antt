@@ -1,4 +1,7 @@
+pub mod Count
+pub mod Log
 pub mod RecordText
+pub mod Tickets
 pub use Rattle.step_law.specs.Actor
 pub use Rattle.step_law.specs.Call
 pub use Rattle.step_law.specs.Ring
