@@ -6,3 +6,4 @@ pub mod Padding
 pub mod Entering
 pub mod Walks
 pub mod Wholes
+pub mod OneValue

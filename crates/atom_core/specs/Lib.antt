@@ -7,3 +7,4 @@ pub mod Content
 pub mod Parts
 pub mod Steps
 pub mod Answer
+pub mod Laws

@@ -4,9 +4,11 @@
 mod content;
 mod fault;
 mod form;
+mod laws;
 mod number;
 mod outer;
 mod part;
 
 pub use fault::AtomFault;
+pub use laws::{one_spelling, one_value};
 pub use outer::check;

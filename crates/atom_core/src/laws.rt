@@ -1,0 +1,11 @@
+ghost use Rattle.atom_core.specs.Laws.{OneValue, OneSpelling};
+
+/// No bytes spell two values.
+pub fn one_value()
+    ensures { OneValue }
+{}
+
+/// Each value within the limits has a spelling, and no two.
+pub fn one_spelling()
+    ensures { OneSpelling }
+{}
