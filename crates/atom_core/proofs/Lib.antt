@@ -7,3 +7,5 @@ pub mod Entering
 pub mod Walks
 pub mod Wholes
 pub mod OneValue
+pub mod Reading
+pub mod OneAnswer

@@ -22,10 +22,10 @@ IsBytes-range bytes a b h i =
       | inr le ↦ subst (λ n. n < 256) (sym (get_or_past (take (b - a) (drop a bytes)) i 0 (omega (arith, length-take (b - a) (drop a bytes))))) (omega arith)
     ]
 
-abbrev cells : List ℕ → ℕ → List ℕ
+abbrev pub cells : List ℕ → ℕ → List ℕ
 cells bytes at = slice_index bytes at ∷ slice_index bytes (at + 1) ∷ slice_index bytes (at + 2) ∷ slice_index bytes (at + 3) ∷ []
 
-cells_are : (bytes : List ℕ) (at : ℕ) → at + 4 ≤ length bytes → cells bytes at ≡ slice_range bytes at (at + 4)
+pub cells_are : (bytes : List ℕ) (at : ℕ) → at + 4 ≤ length bytes → cells bytes at ≡ slice_range bytes at (at + 4)
 cells_are bytes at le =
     let four : (at + 4) - at ≡ 4 = omega arith in
     let e0 = drop_more bytes at 0 (omega arith) in

@@ -1,6 +1,6 @@
 -- No bytes spell two values: a value is read back from its kind and its body.
-use Rattle.std.proofs.Common.{◌≡◌, ℕ, zero, suc, pred, ◌+◌, ◌-◌, ◌*◌, ◌/◌, ◌^◌, ◌<◌, ◌≤◌, ◌==◌, if◌then◌else◌, true, false, List, [], ◌∷◌, ◌++◌, length, take, drop, replicate, ℤ, FitsSigned, refl, sym, ap, ◌∙◌, subst, append_assoc, arith}
-use Rattle.std.specs.Int.{w32, w64, to_le_bytes, from_le_bytes, cast_signed, cast_unsigned}
+use Rattle.std.proofs.Common.{◌≡◌, ℕ, pred, ◌-◌, ◌^◌, ◌<◌, ◌==◌, if◌then◌else◌, true, false, List, [], ◌∷◌, ◌++◌, length, take, drop, replicate, ℤ, FitsSigned, refl, sym, ap, ◌∙◌, subst, append_assoc, arith}
+use Rattle.std.specs.Int.{w32, w64, from_le_bytes, cast_signed, cast_unsigned}
 use Rattle.std.proofs.Math.Facts.{Fits-of_z}
 use Rattle.std.proofs.lemmas.Int.{to_z-of_z}
 use Rattle.std.proofs.lemmas.Nat.{from_le_bytes-to_le_bytes_4, from_le_bytes-to_le_bytes_8}
@@ -11,21 +11,20 @@ use Rattle.atom_core.specs.Form.{form_of, is_container, lead_len}
 use Rattle.atom_core.specs.Place.{padded}
 use Rattle.atom_core.specs.Value.{Plain, int, long, boolean, urid, string, literal, vector, float, double, fixed, uri, path, other, Container, tuple, object, sequence, Lead, bare, keyed, timed, Value, plain, holding, Parts, none, part}
 use Rattle.atom_core.specs.Spelling.{u32, i32, i64, ended, plain_kind, plain_body, container_kind, container_head, lead_bytes, framed, with_padding, kind_of, body_of, parts_of, atom_of, part_of}
-use Rattle.atom_core.specs.Fits.{IsText, PlainFits, ContainerFits, LeadFits, Fits, PartsFit}
-use Rattle.atom_core.proofs.Numbers.{u32-length, i32-length, i64-length}
-use Rattle.atom_core.proofs.Padding.{with_padding-length}
+use Rattle.atom_core.specs.Fits.{PlainFits, ContainerFits, LeadFits, Fits, PartsFit}
+use Rattle.atom_core.proofs.Numbers.{u32-length, i64-length}
 
 -- ---- lists
 
-front_one : (a b x y : List ℕ) → length a ≡ length b → a ++ x ≡ b ++ y → a ≡ b
+pub front_one : (a b x y : List ℕ) → length a ≡ length b → a ++ x ≡ b ++ y → a ≡ b
 front_one a b x y len e = sym (take_at a x (length a) refl) ∙ ap (take (length a)) e ∙ take_at b y (length a) (sym len)
 
-rest_one : (a b x y : List ℕ) → length a ≡ length b → a ++ x ≡ b ++ y → x ≡ y
+pub rest_one : (a b x y : List ℕ) → length a ≡ length b → a ++ x ≡ b ++ y → x ≡ y
 rest_one a b x y len e = sym (drop_at a x (length a) refl) ∙ ap (drop (length a)) e ∙ drop_at b y (length a) (sym len)
 
 -- ---- numbers
 
-u32_back : (n : ℕ) → n < 2 ^ 32 → from_le_bytes w32 (u32 n) ≡ n
+pub u32_back : (n : ℕ) → n < 2 ^ 32 → from_le_bytes w32 (u32 n) ≡ n
 unfolding u32
 u32_back n lt = from_le_bytes-to_le_bytes_4 n lt
 
@@ -139,7 +138,7 @@ container_holds tuple = refl
 container_holds (object id kind) = refl
 container_holds sequence = refl
 
-head_length : (c : Container) → length (container_head c) ≡ lead_len (form_of (container_kind c))
+pub head_length : (c : Container) → length (container_head c) ≡ lead_len (form_of (container_kind c))
 unfolding form_of
 head_length tuple = refl
 head_length (object id kind) = omega (arith, length-append (u32 id) (u32 kind), u32-length id, u32-length kind)

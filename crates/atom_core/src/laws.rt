@@ -1,4 +1,4 @@
-ghost use Rattle.atom_core.specs.Laws.{OneValue, OneSpelling};
+ghost use Rattle.atom_core.specs.Laws.{OneValue, OneSpelling, OneAnswer};
 
 /// No bytes spell two values.
 pub fn one_value()
@@ -8,4 +8,9 @@ pub fn one_value()
 /// Each value within the limits has a spelling, and no two.
 pub fn one_spelling()
     ensures { OneSpelling }
+{}
+
+/// No bytes have two answers of `check`.
+pub fn one_answer()
+    ensures { OneAnswer }
 {}

@@ -10,5 +10,5 @@ mod outer;
 mod part;
 
 pub use fault::AtomFault;
-pub use laws::{one_spelling, one_value};
+pub use laws::{one_answer, one_spelling, one_value};
 pub use outer::check;
