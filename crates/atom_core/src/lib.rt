@@ -1,0 +1,14 @@
+//! Atoms of LV2: values, and the bytes that spell them.
+#![tactic(auto)]
+
+mod content;
+mod fault;
+mod form;
+mod laws;
+mod number;
+mod outer;
+mod part;
+
+pub use fault::AtomFault;
+pub use laws::{one_answer, one_spelling, one_value};
+pub use outer::check;
