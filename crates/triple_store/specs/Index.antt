@@ -1,8 +1,7 @@
 -- What a store keeps beside its rows, so that no call goes through them all.
-use Rattle.std.specs.Prelude.{◌≡◌, ℕ, zero, suc, ◌<◌, ◌≤◌, max, Bool, true, false, List, [], ◌∷◌, length, Option, None, Some, slice_get}
+use Rattle.std.specs.Prelude.{◌≡◌, ℕ, zero, suc, ◌<◌, max, Bool, true, false, List, [], ◌∷◌, length, Option, None, Some, slice_get}
 use Rattle.indexmap.specs.IndexMap.{get}
 use Rattle.triple_store.specs.Triples.{same_term, blanks_of_triple}
-use Rattle.triple_store.specs.declared.fault.TheConstants.{MOST_ROWS}
 use Rattle.triple_store.specs.declared.subjects.Ends.{Ends}
 use Rattle.triple_store.specs.declared.subjects.Subjects.{Subjects}
 use Rattle.triple_store.specs.declared.term.Term.{Term}

@@ -1,5 +1,5 @@
 -- What a graph's rows say: which agree with a pattern, how many blank numbers they use, and what adding a triple leaves.
-use Rattle.std.specs.Prelude.{◌≡◌, ℕ, ◌+◌, max, nat_eq, Bool, true, false, ◌&&◌, List, [], ◌∷◌, ◌++◌, fold, Option, None, Some, Contains}
+use Rattle.std.specs.Prelude.{◌≡◌, ◌≢◌, ℕ, ◌+◌, max, nat_eq, Bool, true, false, ◌&&◌, List, [], ◌∷◌, ◌++◌, fold, Option, None, Some, Contains, AllPairs}
 use Rattle.std.specs.Str.{bytes_eq}
 use Rattle.triple_store.specs.declared.term.Term.{Term}
 use Rattle.triple_store.specs.declared.term.Term.TheVariants.{Iri, Blank, Literal}
@@ -33,6 +33,10 @@ blanks_of_triple t = max (blanks_of_term t.s) (max (blanks_of_term t.p) (blanks_
 -- one above the greatest blank number of the rows
 abbrev pub blanks_of : List Triple → ℕ
 blanks_of rows = fold (λ most t. max most (blanks_of_triple t)) 0 rows
+
+-- no two rows are equal
+abbrev pub AreDistinct : List Triple → Type 0
+AreDistinct rows = AllPairs (λ s t. s ≢ t) rows
 
 -- a triple was added at the end where it is new, and else nothing changed
 abbrev pub Adds : List Triple → Triple → Bool → List Triple → Type 0

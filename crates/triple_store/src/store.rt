@@ -1,7 +1,8 @@
-ghost use Rattle.std.specs.Prelude.{◌≡◌, ◌↔◌, ◌≤◌, ◌-◌, ◌^◌, ◌∷◌, ◌++◌, [], take, length, filter, Contains, IfOk, OnOk, OnErr, IsErrOf, Ok, false};
+ghost use Rattle.std.specs.Prelude.{◌≡◌, ◌↔◌, ◌<◌, ◌≤◌, ◌-◌, ◌^◌, ◌∷◌, ◌++◌, [], take, length, filter, Contains, IfOk, OnOk, OnErr, IsErrOf, Ok, false};
 ghost use Rattle.std.specs.Option.{option_copied};
-ghost use Rattle.triple_store.specs.Triples.{blanks_of, blanks_of_triple, Adds, agrees};
+ghost use Rattle.triple_store.specs.Triples.{blanks_of, blanks_of_triple, Adds, AreDistinct, agrees};
 ghost use Rattle.triple_store.specs.Found.{IsFoundAs};
+ghost use Rattle.triple_store.specs.declared.store.Found.TheVariants.{Missing};
 ghost use Rattle.triple_store.specs.Index.{AreIndexed};
 ghost use Rattle.triple_store.specs.Late.{AreLate, EndsInNew};
 ghost use Rattle.triple_store.specs.declared.fault.TheConstants.{MOST_ROWS};
@@ -15,6 +16,7 @@ use lv_base::NoMemory;
 use seeded_hash::SeededHash;
 use std::alloc::Global;
 use std::marker::Model;
+use std::mem;
 
 /// A set of triples in the order in which they were added. Contracts see it as the list of its rows.
 ///
@@ -74,9 +76,10 @@ impl Store {
         }
     }
 
-    /// The rows, the first one first.
+    /// The rows, the first one first. No two of them are equal.
     pub fn rows(&self) -> &[Triple]
-        ensures { result.now ≡ self.now }
+        ensures value { result.now ≡ self.now }
+        ensures distinct { AreDistinct self.now }
     {
         self.rows.as_slice()
     }
@@ -114,12 +117,26 @@ impl Store {
         ensures err { OnErr result (self.new ≡ self.old) }
     {
         let Found::Missing { late } = self.found(&triple) else {
+            mem::drop(triple);
             return Ok(false);
         };
-        let place = self.rows.len();
-        if place == MOST_ROWS {
+        if self.rows.len() == MOST_ROWS {
+            mem::drop(triple);
             return Err(StoreFault::Full);
         }
+        self.append(triple, late)?;
+        Ok(true)
+    }
+
+    // Adds a new triple where there is room. A refusal leaves all as before.
+    fn append(&mut self, triple: Triple, late: bool) -> Result<(), NoMemory>
+        requires room { length self.old < MOST_ROWS }
+        requires blanks { blanks_of_triple triple ≤ 2 ^ 31 }
+        requires new { IsFoundAs self.old triple (Missing late) }
+        ensures ok { OnOk result (self.new ≡ self.old ++ triple ∷ []) }
+        ensures err { OnErr result (self.new ≡ self.old) }
+    {
+        let place = self.rows.len();
         let blanks = self.blanks().max(term::blanks_of(&triple));
         push(&mut self.rows, triple)?;
         let rows = self.rows.as_slice();
@@ -132,9 +149,9 @@ impl Store {
             late,
         ) {
             self.rows.truncate(place);
-            return Err(StoreFault::NoMemory);
+            return Err(NoMemory);
         }
-        Ok(true)
+        Ok(())
     }
 
     // Looks for a triple.
@@ -202,6 +219,7 @@ fn keep(
     most: u32,
     is_late: bool,
 ) -> Result<(), NoMemory>
+    requires some { 0 < length rows.now }
     requires few { length rows.now ≤ MOST_ROWS }
     requires indexed { AreIndexed subjects.old (take (length rows.now - 1) rows.now) }
     requires late { AreLate late.old (take (length rows.now - 1) rows.now) }
@@ -214,7 +232,7 @@ fn keep(
     ensures same_late { OnErr result (AreLate late.new (take (length rows.now - 1) rows.now)) }
 {
     let Some((row, front)) = rows.split_last() else {
-        return Err(NoMemory);
+        unreachable!();
     };
     blanks.reserve(1)?;
     late.add(row, is_late)?;

@@ -161,7 +161,7 @@ guard true q t e h = h
 guard false q t e h = cc
 
 -- a text in two parts that begins with c: the first part is empty, or begins with it
-parted : (c : ℕ) (t a b : List ℕ) → c ∷ t ≡ a ++ b → ((a ≡ []) × (b ≡ c ∷ t)) ⊎ ((x : List ℕ) × (a ≡ c ∷ x) × (t ≡ x ++ b))
+pub parted : (c : ℕ) (t a b : List ℕ) → c ∷ t ≡ a ++ b → ((a ≡ []) × (b ≡ c ∷ t)) ⊎ ((x : List ℕ) × (a ≡ c ∷ x) × (t ≡ x ++ b))
 parted c t [] b e = inl (refl, sym e)
 parted c t (d ∷ a) b e = let h : c ≡ d = cc in let k : t ≡ a ++ b = cc in inr (a, cc, k)
 
@@ -180,11 +180,11 @@ from_after c (many p) t h =
     let m = r.3 in
     ((c ∷ r.0) ∷ m.0, (from_after c p r.0 r.2, m.1), ap (λ x. c ∷ x) (r.4 ∙ ap (λ x. r.0 ++ x) m.2))
 
-moved : (p : Pattern) (a b : List ℕ) → a ≡ b → Matches p a → Matches p b
+pub moved : (p : Pattern) (a b : List ℕ) → a ≡ b → Matches p a → Matches p b
 moved p a b e h = let P : List ℕ → Type 0 = λ x. Matches p x in subst P e h
 
 -- the first part that isn't empty begins with c
-first_part : (c : ℕ) (p : Pattern) (t : List ℕ) (parts : List (List ℕ)) → AllByRecursion (Matches p) parts → c ∷ t ≡ joined parts
+pub first_part : (c : ℕ) (p : Pattern) (t : List ℕ) (parts : List (List ℕ)) → AllByRecursion (Matches p) parts → c ∷ t ≡ joined parts
     → (x : List ℕ) × (rest : List (List ℕ)) × Matches p (c ∷ x) × AllByRecursion (Matches p) rest × (t ≡ x ++ joined rest)
 first_part c p t [] h e = cc
 first_part c p t ([] ∷ parts) h e = first_part c p t parts h.1 e

@@ -1,3 +1,10 @@
 pub mod Derivatives
 pub mod Examples
 pub mod OneAnswer
+pub mod Spans
+pub mod Longest
+pub mod Begun
+pub mod Features
+pub mod Sorts
+pub mod Live
+pub mod SomeAnswer

@@ -71,6 +71,6 @@ is_name_start c = is_name_base c || c == 95
 unfoldable pub is_name_char : ℕ → Bool
 is_name_char c = is_name_start c || c == 45 || is_digit c || c == 0xB7 || within 0x300 0x36F c || within 0x203F 0x2040 c
 
--- PN_LOCAL_ESC [173s], behind its backslash
+-- PN_LOCAL_ESC [172s], after its backslash
 unfoldable pub is_local_escape : ℕ → Bool
 is_local_escape = among (codes "_~.-!$&'()*+,;=/?#@%")

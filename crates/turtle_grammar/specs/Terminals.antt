@@ -63,7 +63,7 @@ decimal = sign then many (one is_digit) then char 46 then digits
 unfoldable pub double : Pattern
 double = sign then ((digits then char 46 then many (one is_digit) then exponent) or (char 46 then digits then exponent) or (digits then exponent))
 
--- PLX [169s]: PERCENT [170s] or PN_LOCAL_ESC [173s]
+-- PLX [169s]: PERCENT [170s] or PN_LOCAL_ESC [172s]
 abbrev pub plx : Pattern
 plx = (char 37 then times 2 hex) or (char 92 then one is_local_escape)
 
@@ -128,7 +128,7 @@ pattern False = word (codes "false")
 pattern Prefix = word_in_any_case (codes "prefix")
 pattern Base = word_in_any_case (codes "base")
 
--- A comment's text, behind which a line's end or the text's end stands.
+-- A comment's text, after which a line's end or the text's end stands.
 abbrev pub comment : Pattern
 comment = char 35 then many (one (λ c. not (is_line_end c)))
 

@@ -1,5 +1,5 @@
 -- How a text falls into tokens, and where it doesn't.
-use Rattle.std.specs.Prelude.{◌≡◌, ◌⊎◌, ◌≤◌, ◌<◌, ◌+◌, ℕ, suc, nat_eq, Option, Some, None, MatchOption, if◌then◌else◌, List, [], ◌∷◌, ◌++◌, length, take, drop, codes, encode_utf8_all}
+use Rattle.std.specs.Prelude.{◌≡◌, ◌⊎◌, ◌≤◌, ◌<◌, ◌+◌, ℕ, suc, nat_eq, Option, Some, None, MatchOption, if◌then◌else◌, List, [], ◌∷◌, ◌++◌, length, take, drop, codes, encode_utf8_all, IsUtf8}
 use Rattle.std.specs.List.{starts_with}
 use Rattle.std.specs.Str.{chars}
 use Rattle.turtle_grammar.specs.Pattern.{Pattern, Matches}
@@ -65,14 +65,14 @@ pub data Answer : Type 0 where
   is_unclosed : ℕ → Answer
   is_bad : ℕ → Answer
 
--- what is found behind a gap, in places
+-- what is found after a gap, in places
 abbrev pub IsAnswer : List ℕ → ℕ → Answer → Type 0
 IsAnswer text at (next t) = (n : ℕ) × Finds text (token t.kind n) × (t.at ≡ at) × (t.upto ≡ at + bytes_of (take n text))
 IsAnswer text at end = text ≡ []
 IsAnswer text at (is_unclosed place) = Finds text unclosed × (place ≡ at)
 IsAnswer text at (is_bad place) = (i : ℕ) × Finds text (bad i) × (i < length text) × (place ≡ at + bytes_of (take i text))
 
--- What comes next in the characters that stand from the byte `at` on, behind the longest gap.
+-- What comes next in the characters that stand from the byte `at` on, after the longest gap.
 abbrev pub IsNext : List ℕ → ℕ → Answer → Type 0
 IsNext text at answer = (n : ℕ) × IsLongest gap text n × IsAnswer (drop n text) (at + bytes_of (take n text)) answer
 
@@ -104,3 +104,11 @@ HasOneAnswer = (text : List ℕ) (at : ℕ) (a b : Answer) → IsNext text at a 
 -- No text falls into tokens in two ways.
 abbrev pub HasOneReading : Type 0
 HasOneReading = (bytes : List ℕ) (at : ℕ) (s t : List Token) (a b : Answer) → Lexes bytes at s a → Lexes bytes at t b → (s ≡ t) × (a ≡ b)
+
+-- Each place of a text has an answer.
+abbrev pub HasAnswers : Type 0
+HasAnswers = (text : List ℕ) (at : ℕ) → (a : Answer) × IsNext text at a
+
+-- Each text in UTF-8 falls into tokens, up to its end or a fault.
+abbrev pub HasReadings : Type 0
+HasReadings = (bytes : List ℕ) (at : ℕ) → at ≤ length bytes → IsUtf8 (drop at bytes) → (tokens : List Token) × (last : Answer) × Lexes bytes at tokens last

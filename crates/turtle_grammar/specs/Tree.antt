@@ -71,7 +71,7 @@ mutual
     one : Object → Objects
     several : Object → Leaf → Objects → Objects
 
-  -- nothing, or `;` with nothing or a verb and objects behind it
+  -- nothing, or `;` with nothing or a verb and objects after it
   pub data More : Type 0 where
     done : More
     empty : Leaf → More → More
@@ -123,7 +123,7 @@ shorthand_kind double_number = kinds.Double
 shorthand_kind true_word = kinds.True
 shorthand_kind false_word = kinds.False
 
--- Each of the following is a tree's tokens with what stands behind them.
+-- Each of the following is a tree's tokens with what stands after them.
 abbrev pub name_tokens : Name → List Lexeme → List Lexeme
 name_tokens (full leaf) rest = lexeme kinds.Iri leaf ∷ rest
 name_tokens (prefixed leaf) rest = lexeme kinds.PrefixedName leaf ∷ rest

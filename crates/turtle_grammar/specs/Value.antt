@@ -1,5 +1,5 @@
 -- What the texts of tokens stand for: W3C Turtle 1.1, sections 6.3 and 6.4. A token's text is the bytes of its UTF-8.
-use Rattle.std.specs.Prelude.{ℕ, zero, suc, ◌+◌, ◌*◌, ◌-◌, ◌==◌, not, List, [], ◌∷◌, ◌++◌, nat_lt, length, take, drop, fold, filter, if◌then◌else◌, encode_utf8_all}
+use Rattle.std.specs.Prelude.{ℕ, zero, suc, ◌+◌, ◌*◌, ◌-◌, ◌==◌, not, List, [], ◌∷◌, nat_lt, length, take, drop, fold, filter, if◌then◌else◌, encode_utf8_all}
 use Rattle.std.specs.Char.{digit_value}
 use Rattle.std.specs.List.{before_first, after_first}
 use Rattle.std.specs.Str.{chars}
@@ -19,12 +19,12 @@ number_of digits = fold (λ n c. 16 * n + (if nat_lt (digit_value c) 16 then dig
 abbrev pub character : ℕ → ℕ
 character n = if scalar n then n else 0xFFFD
 
--- the character that a letter behind a backslash names; quotes and the backslash name themselves
+-- the character that a letter after a backslash names; quotes and the backslash name themselves
 abbrev pub letter_value : ℕ → ℕ
 letter_value c =
     if c == 116 then 9 else if c == 98 then 8 else if c == 110 then 10 else if c == 114 then 13 else if c == 102 then 12 else c
 
--- what a text behind a backslash begins with: UCHAR [26], `u` and four digits or `U` and eight, or ECHAR [159s], a letter
+-- what a text after a backslash begins with: UCHAR [26], `u` and four digits or `U` and eight, or ECHAR [159s], a letter
 abbrev pub escape_len : List ℕ → ℕ
 escape_len [] = 0
 escape_len (c ∷ rest) = if c == 117 then 5 else if c == 85 then 9 else 1
@@ -70,7 +70,7 @@ string_of quoting text = content (quotes quoting) text
 abbrev pub prefix_of : List ℕ → List ℕ
 prefix_of text = before_first (λ c. c == 58) text
 
--- The local name: what stands behind that colon. A backslash stands only before an escaped character, which is no backslash, and stands
+-- The local name: what stands after that colon. A backslash stands only before an escaped character, which is no backslash, and stands
 -- for nothing; `%` and its digits stay as they are.
 abbrev pub local_of : List ℕ → List ℕ
 local_of text = encode_utf8_all (filter (λ c. not (c == 92)) (chars (after_first (λ c. c == 58) text)))

@@ -4,5 +4,5 @@
 mod laws;
 mod token;
 
-pub use laws::{one_answer, one_reading, test_agrees};
+pub use laws::{one_answer, one_reading, rising_spans, some_answer, some_reading, test_agrees};
 pub use token::{Token, TokenKind};

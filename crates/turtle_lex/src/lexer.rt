@@ -1,4 +1,5 @@
-ghost use Rattle.std.specs.Prelude.{◌≡◌};
+ghost use Rattle.std.specs.Prelude.{◌≡◌, IfOk, IfSome};
+ghost use Rattle.turtle_grammar.specs.Spans.{LiesFrom};
 ghost use Rattle.turtle_grammar.specs.Tokens.{start_of};
 ghost use Rattle.turtle_lex.specs.Places.{IsPlace};
 ghost use Rattle.turtle_lex.specs.Reading.{Steps, ComesNext, EndsAtPlace, fault_at};
@@ -95,9 +96,10 @@ fn token_from(text: &str, from: usize) -> Result<Option<Token>, LexFault>
 }
 
 /// The longest token at the next place, None where only white space and comments are left, or why there is none.
-/// After a fault it is the same fault again.
+/// After a fault it is the same fault again. A token begins at the end of the one before or after it.
 pub fn next(lexer: &mut Lexer<'_>) -> Result<Option<Token>, LexFault>
-    ensures { Steps lexer.old result lexer.new }
+    ensures steps { Steps lexer.old result lexer.new }
+    ensures rising { IfOk result (λ found. IfSome found (LiesFrom lexer.old.text lexer.old.at)) }
 {
     if let Some(fault) = lexer.fault {
         return Err(fault);

@@ -14,7 +14,7 @@ pub fn prefix_text(name: &str) -> &str
     parts(name).0
 }
 
-/// The IRI of a prefixed name: its namespace and its local name, without the backslashes of escapes (PN_LOCAL_ESC [173s]).
+/// The IRI of a prefixed name: its namespace and its local name, without the backslashes of escapes (PN_LOCAL_ESC [172s]).
 pub fn expand(alloc: Global, namespace: &Text, name: &str) -> Result<Text, NoMemory>
     ensures { IfOk result (λ iri. iri ≡ namespace.now ++ local_of name.now) }
 {

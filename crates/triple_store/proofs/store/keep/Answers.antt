@@ -1,5 +1,5 @@
-use Rattle.std.proofs.Common.{◌≡◌, ◌∷◌, ◌++◌, [], length, Contains, ap, subst, arith, length-append}
-use Rattle.triple_store.specs.Late.{AreLate, late_of}
+use Rattle.std.proofs.Common.{◌∷◌, [], length, Contains, ap, subst, arith, length-append}
+use Rattle.triple_store.specs.Late.{AreLate}
 use Rattle.triple_store.proofs.Indexed.{front_of}
 use Rattle.triple_store.proofs.Lates.{fewer-late, late-row, late-added}
 use Rattle.triple_store.proofs.store.keep.Goals as goal

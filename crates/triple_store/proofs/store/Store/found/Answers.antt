@@ -1,6 +1,6 @@
-use Rattle.std.proofs.Common.{◌≡◌, List, Contains, filter, sym, subst, true≢false, ◌∙◌}
-use Rattle.triple_store.specs.Index.{is_about, AreIndexed}
-use Rattle.triple_store.specs.Late.{late_of, is_late}
+use Rattle.std.proofs.Common.{Contains, sym, subst, true≢false, ◌∙◌}
+use Rattle.triple_store.specs.Index.{AreIndexed}
+use Rattle.triple_store.specs.Late.{late_of}
 use Rattle.triple_store.proofs.Lates.{among, late-row, missing-few, missing-many}
 use Rattle.triple_store.proofs.Walk.{chain_of, own_rows}
 use Rattle.triple_store.proofs.store.Store.found.Goals as goal
