@@ -4,7 +4,7 @@ ghost use Rattle.triple_store.specs.declared.term.Triple.{Triple};
 ghost use Rattle.turtle_document.specs.Answer.Outcome.{document};
 ghost use Rattle.turtle_document.specs.Numbers.{HaveFewNumbers};
 ghost use Rattle.session_load.specs.Names.{manifest, path_of, file_iri, is_inside, files_named};
-ghost use Rattle.session_load.specs.OneAnswer.{HasOneAnswer};
+ghost use Rattle.session_load.specs.OneAnswer.{HasOneAnswer, HasSomeAnswer};
 ghost use Rattle.session_load.specs.Bundle.{IsLater, Adds, AddAll, Reads, cause, IsMisread, IsRefused, StopsAt, place, HasRows, IsBundle, IsUnloaded};
 
 use crate::fault::LoadFault;
@@ -69,6 +69,11 @@ pub fn stays_inside()
 /// A read that failed and want of memory aren't theirs.
 pub fn one_answer()
     ensures { HasOneAnswer }
+{}
+
+/// A law, and no step of a program: the files of a known vault give a bundle a list of rows or a first fault.
+pub fn some_answer()
+    ensures { HasSomeAnswer }
 {}
 
 /// The folder of a bundle.

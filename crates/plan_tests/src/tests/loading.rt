@@ -1,7 +1,7 @@
 //! Which files a bundle has, over vaults in memory.
 use lv_base::{Bytes, NoMemory, Text};
 use lv_outside::MemVault;
-use session_load::{LoadFault, bundle, one_answer, stays_inside};
+use session_load::{LoadFault, bundle, one_answer, some_answer, stays_inside};
 use std::alloc::Global;
 use std::process::Abort;
 use std::test::Fail;
@@ -143,6 +143,7 @@ fn an_iri_names_a_file(rt: HostRuntime) -> Result<(), Fail> {
         names(&rt, rt.alloc(), iri, name)?;
     }
     one_answer();
+    some_answer();
     stays_inside();
     Ok(())
 }

@@ -63,34 +63,29 @@ fn tagged(alloc: Global, text: &str, lang: &str) -> Result<Term, NoMemory> {
     })
 }
 
-fn has_text(alloc: Global, fault: &DeclFault, text: &str) -> Result<bool, NoMemory> {
+/// Asserts that this is the text of a fault.
+fn says(rt: &impl Abort, alloc: Global, fault: &DeclFault, text: &str) -> Result<(), Fail> {
     let mut into = Bytes::new(alloc);
     push_rule(&mut into, fault)?;
-    Ok(into.as_slice() == text.as_bytes())
-}
-
-/// Asserts that this is the text of a fault.
-fn says(rt: &impl Abort, alloc: Global, fault: DeclFault, text: &str) -> Result<(), Fail> {
-    let is = has_text(alloc, &fault, text)?;
-    assert!(rt; is, "{text}");
+    assert!(rt; into.as_slice() == text.as_bytes(), "{text}");
     Ok(())
 }
 
 #[test]
 fn a_rule_of_a_blank_node(rt: HostRuntime) -> Result<(), Fail> {
     let feature = DeclFault::Feature(Term::Blank(3));
-    says(&rt, rt.alloc(), feature, "feature _:3")
+    says(&rt, rt.alloc(), &feature, "feature _:3")
 }
 
 #[test]
 fn a_rule_of_a_literal(rt: HostRuntime) -> Result<(), Fail> {
     let option = DeclFault::RequiredOption(tagged(rt.alloc(), "text", "en")?);
-    says(&rt, rt.alloc(), option, "option \"text\"@en")
+    says(&rt, rt.alloc(), &option, "option \"text\"@en")
 }
 
 #[test]
 fn want_of_memory_has_no_text(rt: HostRuntime) -> Result<(), Fail> {
-    says(&rt, rt.alloc(), DeclFault::NoMemory, "")
+    says(&rt, rt.alloc(), &DeclFault::NoMemory, "")
 }
 
 /// The subject is of a class.
