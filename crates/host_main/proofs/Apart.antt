@@ -1,8 +1,9 @@
--- The three paths of a run differ, since their endings do.
-use Rattle.std.proofs.Common.{◌≡◌, ℕ, List, ◌++◌, ap, get_or, arith}
+-- The files of a run: their paths differ, since their endings do, and they stand as they were written.
+use Rattle.std.proofs.Common.{◌≡◌, ℕ, List, ◌++◌, Option, ◌∙◌, ap, subst, get_or, arith}
 use Rattle.std.proofs.lemmas.List.{append_cancel_left}
 use Rattle.step_record.specs.declared.entry.Entry.{Entry}
-use Rattle.host_main.specs.Files.{rendering, AreApart}
+use Rattle.host_main.specs.Files.{rendering, AreApart, HoldsAll}
+use Rattle.host_main.specs.declared.files.Rendering.{Rendering}
 
 -- endings with other second letters make other paths
 apart_by : (name a b : List ℕ) → (get_or a 1 0 ≡ get_or b 1 0 → ⊥) → name ++ a ≡ name ++ b → ⊥
@@ -15,3 +16,15 @@ apart name steps sound summary = record {
   steps_state = apart_by name _ _ (λ e. let f : ◌≡◌ {A = ℕ} 114 116 = e in omega arith);
   sound_state = apart_by name _ _ (λ e. let f : ◌≡◌ {A = ℕ} 112 116 = e in omega arith);
 }
+
+-- the files were as before when they were written
+pub stands : (w made : Rendering) (old mid new : List ℕ → Option (List ℕ)) → made ≡ w → ((q : List ℕ) → mid q ≡ old q)
+    → HoldsAll made mid new → HoldsAll w old new
+stands w made old mid new is left holds =
+    let here : HoldsAll made old new = record {
+      steps = holds.steps;
+      sound = holds.sound;
+      state = holds.state;
+      others = λ q a b c. holds.others q a b c ∙ left q;
+    } in
+    subst (λ (w : Rendering). HoldsAll w old new) is here
