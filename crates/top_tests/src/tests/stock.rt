@@ -1,7 +1,7 @@
 ghost use Rattle.std.specs.Prelude.{◌≡◌, length};
 ghost use Rattle.plug_api.specs.Ports.{ArePortsOf, outputs_of, reference_of};
 
-use super::Stock;
+use host_main::Stock;
 use lv_base::{Fixed, Sample, Text};
 use plug_api::{Codes, Front, Ins, Outs, Ports};
 use std::test::Fail;

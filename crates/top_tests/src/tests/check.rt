@@ -1,57 +1,29 @@
-//! `check` over bundles in memory: every line byte for byte.
-
-use crate::{Stock, host_main};
-use lv_base::{Bytes, Text};
-use lv_outside::{MemSink, MemVault, OpenGate};
+use super::ended::{Ended, Fails, hold, run};
+use lv_base::{Bytes, NoMemory};
 use std::alloc::Global;
+use std::process::Abort;
 use std::test::Fail;
 
-// What a command left behind.
-#[derive(Drop)]
-struct Ended {
-    status: u8,
-    out: MemSink,
-}
-
-impl Ended {
-    fn is(&self, status: u8, lines: &str) -> bool {
-        self.status == status && self.out.taken() == lines.as_bytes()
-    }
-
-    // The work was done, and these lines are the last ones.
-    fn ends_in(&self, lines: &str) -> bool {
-        self.status == 0 && self.out.taken().ends_with(lines.as_bytes())
-    }
-}
-
-// Runs `check WORD` over a vault with these files.
 fn check(
     alloc: Global,
     word: &str,
-    files: &[(&str, &str)],
-    vault_fails: &[u64],
-    sink_fails: &[u64],
-) -> Result<Ended, Fail> {
-    let mut held = Vec::new(alloc);
-    for (path, text) in files {
-        held.push((
-            Bytes::from_slice(alloc, path.as_bytes())?,
-            Bytes::from_slice(alloc, text.as_bytes())?,
-        ))?;
-    }
-    let mut vault = MemVault::new(alloc, held, vault_fails.to_vec(alloc)?);
-    let mut out = MemSink::new(alloc, sink_fails.to_vec(alloc)?);
-    let words = [
-        Text::from_str(alloc, "check")?,
-        Text::from_str(alloc, word)?,
-    ];
-    let status = host_main(alloc, &words, &mut vault, &mut out, &Stock, &OpenGate);
-    Ok(Ended { status, out })
+    files: Vec<(Bytes, Bytes)>,
+    fails: Fails,
+) -> Result<Ended, NoMemory> {
+    run(alloc, &["check", word], files, fails)
+}
+
+// The file of a bundle in the folder `b` that has no other.
+fn manifest_alone(alloc: Global, manifest: &str) -> Result<Vec<(Bytes, Bytes)>, NoMemory> {
+    let mut files = Vec::new(alloc);
+    hold(&mut files, alloc, "b/manifest.ttl", manifest)?;
+    Ok(files)
 }
 
 // A bundle of a manifest alone, where nothing fails.
-fn check_manifest(alloc: Global, manifest: &str) -> Result<Ended, Fail> {
-    check(alloc, "b", &[("b/manifest.ttl", manifest)], &[], &[])
+fn check_manifest(alloc: Global, manifest: &str) -> Result<Ended, NoMemory> {
+    let files = manifest_alone(alloc, manifest)?;
+    check(alloc, "b", files, Fails::NONE)
 }
 
 const WORKED: &str = concat!(
@@ -79,70 +51,104 @@ fn a_collection_and_a_tag(rt: HostRuntime) -> Result<(), Fail> {
     Ok(())
 }
 
-// Documents that break off, and one that goes on with a word that no document has there.
-const NO_DOCUMENTS: [(&str, &str); 2] = [
-    (
-        "@prefix a: <urn:x:>\na:b a a:c .",
-        "lv2fx: 5 turtle b/manifest.ttl at 20 syntax\n",
-    ),
-    (
-        "@prefix a: <urn:x:>",
-        "lv2fx: 5 turtle b/manifest.ttl at 19 syntax\n",
-    ),
-];
+// A manifest alone is refused with this status and this line.
+fn refused<R: Abort + AllocGlobal>(
+    rt: &R,
+    manifest: &str,
+    status: u8,
+    line: &str,
+) -> Result<(), NoMemory> {
+    let ended = check_manifest(rt.alloc(), manifest)?;
+    assert!(rt; ended.is(status, line), "at {line:?}");
+    Ok(())
+}
 
+// Documents that break off, and one that goes on with a word that no document has there.
 #[test]
 fn no_documents(rt: HostRuntime) -> Result<(), Fail> {
-    for (manifest, line) in NO_DOCUMENTS {
-        let ended = check_manifest(rt.alloc(), manifest)?;
-        assert!(rt; ended.is(5, line), "at {line:?}");
-    }
+    refused(
+        &rt,
+        "@prefix a: <urn:x:>\na:b a a:c .",
+        5,
+        "lv2fx: 5 turtle b/manifest.ttl at 20 syntax\n",
+    )?;
+    refused(
+        &rt,
+        "@prefix a: <urn:x:>",
+        5,
+        "lv2fx: 5 turtle b/manifest.ttl at 19 syntax\n",
+    )?;
     Ok(())
+}
+
+// A manifest with so many brackets one in another.
+fn nested(alloc: Global, depth: usize) -> Result<String, NoMemory> {
+    let mut manifest = String::from_str(alloc, "<urn:s> <urn:p> ")?;
+    for _ in 0..depth {
+        manifest.push('(')?;
+    }
+    Ok(manifest)
 }
 
 // The 257th bracket is one too many.
 #[test]
 fn depth(rt: HostRuntime) -> Result<(), Fail> {
-    let mut manifest = String::from_str(rt.alloc(), "<urn:s> <urn:p> ")?;
-    for _ in 0..257 {
-        manifest.push('(')?;
-    }
-    let ended = check_manifest(rt.alloc(), manifest.as_str())?;
-    assert!(rt; ended.is(5, "lv2fx: 5 turtle b/manifest.ttl at 272 depth\n"));
+    let manifest = nested(rt.alloc(), 257)?;
+    refused(
+        &rt,
+        manifest.as_str(),
+        5,
+        "lv2fx: 5 turtle b/manifest.ttl at 272 depth\n",
+    )?;
     Ok(())
 }
 
-// The words that name a folder, and the file that is looked for.
-const MISSING: [(&str, &str); 5] = [
-    ("b", "lv2fx: 2 missing b/manifest.ttl\n"),
-    ("b/", "lv2fx: 2 missing b/manifest.ttl\n"),
-    ("b//", "lv2fx: 2 missing b//manifest.ttl\n"),
-    ("/", "lv2fx: 2 missing /manifest.ttl\n"),
-    ("", "lv2fx: 2 missing /manifest.ttl\n"),
-];
+// No file is there: the word that names a folder, and the line that says which file was looked for.
+fn missing<R: Abort + AllocGlobal>(rt: &R, word: &str, line: &str) -> Result<(), NoMemory> {
+    let ended = check(rt.alloc(), word, Vec::new(rt.alloc()), Fails::NONE)?;
+    assert!(rt; ended.is(2, line), "of {word:?}");
+    Ok(())
+}
 
 #[test]
-fn missing(rt: HostRuntime) -> Result<(), Fail> {
-    for (word, line) in MISSING {
-        let ended = check(rt.alloc(), word, &[], &[], &[])?;
-        assert!(rt; ended.is(2, line), "of {word:?}");
-    }
+fn folders_without_a_manifest(rt: HostRuntime) -> Result<(), Fail> {
+    missing(&rt, "b", "lv2fx: 2 missing b/manifest.ttl\n")?;
+    missing(&rt, "b/", "lv2fx: 2 missing b/manifest.ttl\n")?;
+    missing(&rt, "b//", "lv2fx: 2 missing b//manifest.ttl\n")?;
+    missing(&rt, "/", "lv2fx: 2 missing /manifest.ttl\n")?;
+    missing(&rt, "", "lv2fx: 2 missing /manifest.ttl\n")?;
     Ok(())
 }
 
 #[test]
 fn a_fault_of_the_vault(rt: HostRuntime) -> Result<(), Fail> {
-    let ended = check(rt.alloc(), "b", &[("b/manifest.ttl", "")], &[0], &[])?;
+    let fails = Fails {
+        vault: Some(0),
+        sink: None,
+    };
+    let files = manifest_alone(rt.alloc(), "")?;
+    let ended = check(rt.alloc(), "b", files, fails)?;
     assert!(rt; ended.is(3, "lv2fx: 3 read failed b/manifest.ttl\n"));
     Ok(())
 }
 
+const NO_SINK: Fails = Fails {
+    vault: None,
+    sink: Some(0),
+};
+
 #[test]
 fn a_fault_of_the_sink(rt: HostRuntime) -> Result<(), Fail> {
-    let ended = check(rt.alloc(), "b", &[("b/manifest.ttl", "")], &[], &[0])?;
+    let files = manifest_alone(rt.alloc(), "")?;
+    let ended = check(rt.alloc(), "b", files, NO_SINK)?;
     assert!(rt; ended.is(4, "lv2fx: 4 write failed -\n"));
-    // Nothing is left to say where the line fails as well.
-    let ended = check(rt.alloc(), "b", &[], &[], &[0])?;
+    Ok(())
+}
+
+// Nothing is left to say where the line fails as well.
+#[test]
+fn a_line_that_fails(rt: HostRuntime) -> Result<(), Fail> {
+    let ended = check(rt.alloc(), "b", Vec::new(rt.alloc()), NO_SINK)?;
     assert!(rt; ended.is(2, ""));
     Ok(())
 }
@@ -190,76 +196,100 @@ const AMP_LINES: &str = concat!(
     "port 2 out output audio\n",
 );
 
+fn amplifier(alloc: Global) -> Result<Vec<(Bytes, Bytes)>, NoMemory> {
+    let mut files = manifest_alone(alloc, AMP_MANIFEST)?;
+    hold(&mut files, alloc, "b/amp.ttl", AMP)?;
+    Ok(files)
+}
+
 #[test]
 fn an_amplifier(rt: HostRuntime) -> Result<(), Fail> {
-    let files = [("b/manifest.ttl", AMP_MANIFEST), ("b/amp.ttl", AMP)];
-    let ended = check(rt.alloc(), "b", &files, &[], &[])?;
+    let files = amplifier(rt.alloc())?;
+    let ended = check(rt.alloc(), "b", files, Fails::NONE)?;
     assert!(rt; ended.ends_in(AMP_LINES));
-    // The file that the manifest names is missing.
-    let ended = check(rt.alloc(), "b", &files[..1], &[], &[])?;
-    assert!(rt; ended.is(2, "lv2fx: 2 missing b/amp.ttl\n"));
     Ok(())
 }
 
-// A manifest of a plug-in of which these statements are made.
-fn check_plugin(alloc: Global, statements: &str) -> Result<Ended, Fail> {
+#[test]
+fn a_named_file_that_is_missing(rt: HostRuntime) -> Result<(), Fail> {
+    refused(&rt, AMP_MANIFEST, 2, "lv2fx: 2 missing b/amp.ttl\n")?;
+    Ok(())
+}
+
+// A manifest that says these things of a plug-in.
+fn manifest_of(alloc: Global, statements: &str) -> Result<String, NoMemory> {
     let head = "@prefix lv2: <http://lv2plug.in/ns/lv2core#> .\n<urn:p> a lv2:Plugin ";
     let mut manifest = String::from_str(alloc, head)?;
     manifest.push_str(statements)?;
     manifest.push_str(" .\n")?;
-    check_manifest(alloc, manifest.as_str())
+    Ok(manifest)
 }
 
-// Statements that break a rule, and the rule.
-const REFUSED: [(&str, &str); 5] = [
-    (
-        "; lv2:port [ a lv2:InputPort , lv2:ControlPort ; lv2:index 0 ; lv2:symbol \"a\" ; lv2:name \"A\" ] , [ a lv2:InputPort , lv2:ControlPort ; lv2:index 2 ; lv2:symbol \"b\" ; lv2:name \"B\" ]",
-        "lv2fx: 6 plugin urn:p gap 1\n",
-    ),
-    (
-        "; lv2:port [ a lv2:InputPort , lv2:ControlPort ; lv2:index 0 ; lv2:symbol \"a\" ; lv2:name \"A\" ] , [ a lv2:InputPort , lv2:ControlPort ; lv2:index 0 ; lv2:symbol \"b\" ; lv2:name \"B\" ]",
-        "lv2fx: 6 plugin urn:p same-index 0\n",
-    ),
-    (
-        "; lv2:port [ a lv2:InputPort , lv2:ControlPort ; lv2:index 0 ; lv2:symbol \"2in\" ; lv2:name \"A\" ]",
-        "lv2fx: 6 plugin urn:p bad-symbol 0\n",
-    ),
-    (
-        "; lv2:requiredFeature <urn:no>",
-        "lv2fx: 6 plugin urn:p feature urn:no\n",
-    ),
-    (
-        "; lv2:port [ a lv2:InputPort , lv2:ControlPort ; lv2:index 0 ; lv2:symbol \"a\" ; lv2:name \"A\" ] , [ a lv2:InputPort , <urn:odd> ; lv2:index 1 ; lv2:symbol \"b\" ; lv2:name \"B\" ]",
-        "lv2fx: 6 plugin urn:p port-class 1\n",
-    ),
-];
+// Statements on a plug-in break a rule.
+fn broken<R: Abort + AllocGlobal>(rt: &R, statements: &str, line: &str) -> Result<(), NoMemory> {
+    let manifest = manifest_of(rt.alloc(), statements)?;
+    refused(rt, manifest.as_str(), 6, line)
+}
 
 #[test]
-fn plugins_that_break_a_rule(rt: HostRuntime) -> Result<(), Fail> {
-    for (statements, line) in REFUSED {
-        let ended = check_plugin(rt.alloc(), statements)?;
-        assert!(rt; ended.is(6, line), "at {line:?}");
-    }
+fn numbers_that_are_wrong(rt: HostRuntime) -> Result<(), Fail> {
+    broken(
+        &rt,
+        "; lv2:port [ a lv2:InputPort , lv2:ControlPort ; lv2:index 0 ; lv2:symbol \"a\" ; lv2:name \"A\" ] , [ a lv2:InputPort , lv2:ControlPort ; lv2:index 2 ; lv2:symbol \"b\" ; lv2:name \"B\" ]",
+        "lv2fx: 6 plugin urn:p gap 1\n",
+    )?;
+    broken(
+        &rt,
+        "; lv2:port [ a lv2:InputPort , lv2:ControlPort ; lv2:index 0 ; lv2:symbol \"a\" ; lv2:name \"A\" ] , [ a lv2:InputPort , lv2:ControlPort ; lv2:index 0 ; lv2:symbol \"b\" ; lv2:name \"B\" ]",
+        "lv2fx: 6 plugin urn:p same-index 0\n",
+    )?;
     Ok(())
 }
 
-// Statements that break none, and the last lines.
-const ACCEPTED: [(&str, &str); 2] = [
-    (
-        "; lv2:optionalFeature <urn:no>",
-        "triples 2\nplugins 1\nplugin urn:p 0 0\n",
-    ),
-    (
-        "; lv2:port [ a lv2:InputPort , lv2:ControlPort ; lv2:index 0 ; lv2:symbol \"a\" ; lv2:name \"A\" ] , [ a lv2:InputPort , <urn:odd> ; lv2:index 1 ; lv2:symbol \"b\" ; lv2:name \"B\" ; lv2:portProperty lv2:connectionOptional ]",
-        "plugin urn:p 0 0\nport 0 a input control\nport 1 b input unsupported\n",
-    ),
-];
+#[test]
+fn ports_that_are_wrong(rt: HostRuntime) -> Result<(), Fail> {
+    broken(
+        &rt,
+        "; lv2:port [ a lv2:InputPort , lv2:ControlPort ; lv2:index 0 ; lv2:symbol \"2in\" ; lv2:name \"A\" ]",
+        "lv2fx: 6 plugin urn:p bad-symbol 0\n",
+    )?;
+    broken(
+        &rt,
+        "; lv2:port [ a lv2:InputPort , lv2:ControlPort ; lv2:index 0 ; lv2:symbol \"a\" ; lv2:name \"A\" ] , [ a lv2:InputPort , <urn:odd> ; lv2:index 1 ; lv2:symbol \"b\" ; lv2:name \"B\" ]",
+        "lv2fx: 6 plugin urn:p port-class 1\n",
+    )?;
+    Ok(())
+}
 
 #[test]
-fn plugins_that_break_none(rt: HostRuntime) -> Result<(), Fail> {
-    for (statements, lines) in ACCEPTED {
-        let ended = check_plugin(rt.alloc(), statements)?;
-        assert!(rt; ended.ends_in(lines), "at {lines:?}");
-    }
+fn a_feature_that_is_required(rt: HostRuntime) -> Result<(), Fail> {
+    broken(
+        &rt,
+        "; lv2:requiredFeature <urn:no>",
+        "lv2fx: 6 plugin urn:p feature urn:no\n",
+    )?;
+    Ok(())
+}
+
+// Statements on a plug-in break no rule, and these lines are the last ones.
+fn kept<R: Abort + AllocGlobal>(rt: &R, statements: &str, lines: &str) -> Result<(), NoMemory> {
+    let manifest = manifest_of(rt.alloc(), statements)?;
+    let ended = check_manifest(rt.alloc(), manifest.as_str())?;
+    assert!(rt; ended.ends_in(lines), "at {lines:?}");
+    Ok(())
+}
+
+#[test]
+fn plugins_that_break_no_rule(rt: HostRuntime) -> Result<(), Fail> {
+    kept(
+        &rt,
+        "; lv2:optionalFeature <urn:no>",
+        "triples 2\nplugins 1\nplugin urn:p 0 0\n",
+    )?;
+    kept(
+        &rt,
+        "; lv2:port [ a lv2:InputPort , lv2:ControlPort ; lv2:index 0 ; lv2:symbol \"a\" ; lv2:name \"A\" ] , [ a lv2:InputPort , <urn:odd> ; lv2:index 1 ; lv2:symbol \"b\" ; lv2:name \"B\" ; lv2:portProperty lv2:connectionOptional ]",
+        "plugin urn:p 0 0\nport 0 a input control\nport 1 b input unsupported\n",
+    )?;
     Ok(())
 }
