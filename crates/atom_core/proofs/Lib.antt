@@ -9,3 +9,4 @@ pub mod Wholes
 pub mod OneValue
 pub mod Reading
 pub mod OneAnswer
+pub mod Readings

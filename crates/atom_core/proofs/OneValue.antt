@@ -44,16 +44,16 @@ i64_one y z small few e = sym (i64_back y small) ∙ ap (λ l. cast_signed w64 (
 
 -- ---- values without atoms
 
-abbrev text_in : List ℕ → List ℕ
+abbrev pub text_in : List ℕ → List ℕ
 text_in body = take (length body - 1) body
 
 text_back : (text : List ℕ) → text_in (ended text) ≡ text
 text_back text = take_at text (0 ∷ []) (length (ended text) - 1) (omega (arith, length-append text (0 ∷ [])))
 
-abbrev number_in : List ℕ → ℕ
+abbrev pub number_in : List ℕ → ℕ
 number_in body = from_le_bytes w32 (take 4 body)
 
-unfoldable plain_by : Form → ℕ → List ℕ → Plain
+unfoldable pub plain_by : Form → ℕ → List ℕ → Plain
 plain_by Any kind body = other kind body
 plain_by Four kind body =
     if kind == 1 then int (cast_signed w32 (from_le_bytes w32 body)) else
@@ -70,7 +70,7 @@ plain_by Tuple kind body = other kind body
 plain_by Object kind body = other kind body
 plain_by Sequence kind body = other kind body
 
-abbrev plain_from : ℕ → List ℕ → Plain
+abbrev pub plain_from : ℕ → List ℕ → Plain
 plain_from kind body = plain_by (form_of kind) kind body
 
 number_front : (n : ℕ) (rest : List ℕ) → n < 2 ^ 32 → number_in (u32 n ++ rest) ≡ n
@@ -79,7 +79,7 @@ number_front n rest lt = ap (from_le_bytes w32) (take_at (u32 n) rest 4 (u32-len
 number_behind : (n : ℕ) (rest : List ℕ) → drop 4 (u32 n ++ rest) ≡ rest
 number_behind n rest = drop_at (u32 n) rest 4 (u32-length n)
 
-plain_back : (p : Plain) → PlainFits p → plain_from (plain_kind p) (plain_body p) ≡ p
+pub plain_back : (p : Plain) → PlainFits p → plain_from (plain_kind p) (plain_body p) ≡ p
 unfolding form_of plain_by
 plain_back (int z) fits = ap int (i32_back z fits)
 plain_back (long z) fits = ap long (i64_back z fits)

@@ -7,4 +7,5 @@ pub mod Content
 pub mod Parts
 pub mod Steps
 pub mod Answer
+pub mod Readers
 pub mod Laws

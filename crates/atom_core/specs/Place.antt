@@ -1,11 +1,18 @@
 -- What stands at a place of some bytes.
 use Rattle.std.specs.Prelude.{◌≡◌, ◌≢◌, ℕ, ◌+◌, ◌*◌, ◌/◌, ◌<◌, ◌≤◌, List, [], ◌∷◌, length, slice_index, slice_range}
-use Rattle.std.specs.Int.{w32, from_le_bytes}
+use Rattle.std.specs.Int.{w32, w64, from_le_bytes}
 
 -- the number in four bytes, the low byte first
 unfoldable pub number_at : List ℕ → ℕ → ℕ
 number_at bytes at =
     from_le_bytes w32 (slice_index bytes at ∷ slice_index bytes (at + 1) ∷ slice_index bytes (at + 2) ∷ slice_index bytes (at + 3) ∷ [])
+
+-- the number in eight bytes
+unfoldable pub wide_at : List ℕ → ℕ → ℕ
+wide_at bytes at =
+    from_le_bytes w64
+    (slice_index bytes at ∷ slice_index bytes (at + 1) ∷ slice_index bytes (at + 2) ∷ slice_index bytes (at + 3)
+    ∷ slice_index bytes (at + 4) ∷ slice_index bytes (at + 5) ∷ slice_index bytes (at + 6) ∷ slice_index bytes (at + 7) ∷ [])
 
 -- an atom's header has the size of its body and then its type
 abbrev pub size_at : List ℕ → ℕ → ℕ

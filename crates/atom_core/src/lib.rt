@@ -4,11 +4,14 @@
 mod content;
 mod fault;
 mod form;
+mod kind;
 mod laws;
 mod number;
 mod outer;
 mod part;
+mod view;
 
 pub use fault::AtomFault;
 pub use laws::{one_answer, one_spelling, one_value};
 pub use outer::check;
+pub use view::{AtomView, read};
