@@ -17,7 +17,8 @@ mod plain;
 mod run;
 mod start;
 mod stop;
-mod tag;mod word;
+mod tag;
+mod word;
 
 pub use fault::LexFault;
 pub use lexer::{Lexer, next};

@@ -2,9 +2,13 @@ use atom_core::{AtomView, read};
 use lv_base::Fixed;
 
 const INT: [u8; 12] = [4, 0, 0, 0, 1, 0, 0, 0, 0xFE, 0xFF, 0xFF, 0xFF];
+
 const LONG: [u8; 16] = [8, 0, 0, 0, 2, 0, 0, 0, 0, 0, 0, 0, 1, 0, 0, 0];
+
 const URID: [u8; 12] = [4, 0, 0, 0, 4, 0, 0, 0, 26, 0, 0, 0];
+
 const STRING: [u8; 11] = [3, 0, 0, 0, 5, 0, 0, 0, b'h', b'i', 0];
+
 const FIXED: [u8; 16] = [8, 0, 0, 0, 14, 0, 0, 0, 0, 0, 0x40, 0, 0, 0, 0, 0];
 
 fn int_in(bytes: &[u8]) -> Option<i32> {

@@ -39,12 +39,7 @@ fn files(alloc: Global, session: &str) -> Result<Vec<(Bytes, Bytes)>, NoMemory> 
     Ok(files)
 }
 
-fn render(
-    alloc: Global,
-    words: &[&str],
-    session: &str,
-    fails: Fails,
-) -> Result<Ended, NoMemory> {
+fn render(alloc: Global, words: &[&str], session: &str, fails: Fails) -> Result<Ended, NoMemory> {
     let files = files(alloc, session)?;
     run(alloc, words, files, fails)
 }
@@ -91,14 +86,16 @@ fn a_quarter_and_full_scale(rt: HostRuntime) -> Result<(), Fail> {
 // The sum of the first two constants is beyond the greatest sample, that of all three isn't.
 #[test]
 fn a_mix(rt: HostRuntime) -> Result<(), Fail> {
-    let session = "lv2fx 1\nblock 1\nblocks 1\ninst p urn:lv2fx:const\ninst q urn:lv2fx:const\ninst r urn:lv2fx:const\ninst g urn:lv2fx:amp\nset p value 100.0\nset q value 100.0\nset r value -100.0\nset g gain 0.0078125\ncable p out g in\ncable q out g in\ncable r out g in\nout g out\n";
+    let session =
+        "lv2fx 1\nblock 1\nblocks 1\ninst p urn:lv2fx:const\ninst q urn:lv2fx:const\ninst r urn:lv2fx:const\ninst g urn:lv2fx:amp\nset p value 100.0\nset q value 100.0\nset r value -100.0\nset g gain 0.0078125\ncable p out g in\ncable q out g in\ncable r out g in\nout g out\n";
     sounds(&rt, session, b"\x00\x64")?;
     Ok(())
 }
 
 #[test]
 fn the_last_of_two_settings(rt: HostRuntime) -> Result<(), Fail> {
-    let session = "lv2fx 1\nblock 1\nblocks 1\ninst c urn:lv2fx:const\nset c value 1.0\nset c value 0.25\nout c out\n";
+    let session =
+        "lv2fx 1\nblock 1\nblocks 1\ninst c urn:lv2fx:const\nset c value 1.0\nset c value 0.25\nout c out\n";
     sounds(&rt, session, b"\x00\x20")?;
     Ok(())
 }
@@ -106,7 +103,8 @@ fn the_last_of_two_settings(rt: HostRuntime) -> Result<(), Fail> {
 // Its lines end with CR and LF, and the last has no end.
 #[test]
 fn two_channels(rt: HostRuntime) -> Result<(), Fail> {
-    let session = "lv2fx 1\r\nblock 1\r\nblocks 2\r\ninst c urn:lv2fx:const\r\ninst d urn:lv2fx:const\r\nset c value 0.25\r\nset d value -0.25\r\nout d out\r\nout c out";
+    let session =
+        "lv2fx 1\r\nblock 1\r\nblocks 2\r\ninst c urn:lv2fx:const\r\ninst d urn:lv2fx:const\r\nset c value 0.25\r\nset d value -0.25\r\nout d out\r\nout c out";
     sounds(&rt, session, b"\x00\xe0\x00\x20\x00\xe0\x00\x20")?;
     Ok(())
 }
@@ -143,7 +141,13 @@ fn words_without_memory(rt: HostRuntime) {
 
 #[test]
 fn sessions_that_are_refused(rt: HostRuntime) -> Result<(), Fail> {
-    refused(&rt, &["render", "there", "o"], "", 2, "lv2fx: 2 missing there\n")?;
+    refused(
+        &rt,
+        &["render", "there", "o"],
+        "",
+        2,
+        "lv2fx: 2 missing there\n",
+    )?;
     refused(&rt, RENDER, "", 7, "lv2fx: 7 script line 1 head\n")?;
     refused(
         &rt,
