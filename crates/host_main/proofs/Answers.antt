@@ -6,13 +6,12 @@ use Rattle.session_script.specs.declared.session.Session.{Session}
 use Rattle.session_script.specs.declared.fault.ScriptRule.{ScriptRule}
 use Rattle.session_script.specs.declared.fault.Limit.{Limit}
 use Rattle.session_script.specs.Script.{IsSessionOf, IsFirstBroken, IsPast}
-use Rattle.session_script.specs.FirstPath.Script.{IsSessionOf as IsFormed}
-use Rattle.session_script.proofs.Laws.{no_line, no_limit, line_first}
-use Rattle.session_script.proofs.FirstPath.Laws.{not_both}
+use Rattle.session_script.specs.Later.{first_later}
+use Rattle.session_script.proofs.Laws.{one_session, no_line, no_limit, line_first}
 use Rattle.lv_outside.specs.World.{VaultState, SinkState, IsSaid}
 use Rattle.host_main.specs.Status.{status_of, line_of, most_session_bytes}
 use Rattle.host_main.specs.Files.{IsFile}
-use Rattle.host_main.specs.Render.{IsLater, IsUnwritten, IsUnrendered, IsCaused, LeavesSink, Explains, IsOneOf, AnswersRender}
+use Rattle.host_main.specs.Render.{HasNoLater, IsLater, IsUnwritten, IsUnrendered, IsCaused, LeavesSink, Explains, IsOneOf, AnswersRender}
 use Rattle.host_main.specs.declared.refusal.Refusal.{Refusal}
 use Rattle.host_main.specs.declared.refusal.Refusal.TheVariants.{Usage, Missing, ReadFailed, WriteFailed, Script, Past, Later, TooLong, NoMemory}
 use Rattle.host_main.specs.declared.refusal.Target.{Target}
@@ -78,6 +77,12 @@ nowhere file bytes here there = let same : ◌≡◌ {A = Option (List ℕ)} Non
 pub same_text : (file : Option (List ℕ)) (a b : List ℕ) → file ≡ Some a → file ≡ Some b → a ≡ b
 same_text file a b one other = let same : ◌≡◌ {A = Option (List ℕ)} (Some a) (Some b) = sym one ∙ other in cc
 
+-- a script's session has a line that can't be played yet, or none
+not_both : (bytes : List ℕ) (s : Session) (line : ℕ) → IsSessionOf bytes s → HasNoLater bytes s → IsLater bytes line → ⊥
+not_both bytes s line session none later =
+    let same : later.s ≡ s = one_session bytes later.s s later.session session in
+    let both : ◌≡◌ {A = Option ℕ} None (Some line) = sym none ∙ (ap (first_later bytes) (sym same) ∙ later.first) in cc
+
 -- What an answer says of a known file: nothing where a read failed or memory was refused.
 data Says (answer : ℕ) (file : Option (List ℕ)) : Type 0 where
   nothing : (answer ≡ 3) ⊎ (answer ≡ 14) → Says answer file
@@ -90,7 +95,7 @@ data Says (answer : ℕ) (file : Option (List ℕ)) : Type 0 where
   later : answer ≡ 7 → (bytes : List ℕ) (line : ℕ) → file ≡ Some bytes → length bytes ≤ most_session_bytes
       → IsLater bytes line → Says answer file
   accepted : (answer ≡ 0) ⊎ (answer ≡ 4) → (bytes : List ℕ) (s : Session) → file ≡ Some bytes
-      → length bytes ≤ most_session_bytes → IsSessionOf bytes s → IsFormed bytes s → Says answer file
+      → length bytes ≤ most_session_bytes → IsSessionOf bytes s → HasNoLater bytes s → Says answer file
 
 says_refused : {F : Type 0} (code : Meaning F) (path name : List ℕ) (v v' : VaultState) (k k' : SinkState) (refusal : Refusal) (answer : ℕ)
     → IsTrue v.tells → answer ≡ status_of refusal → IsCaused code path name v v' k k' refusal → Says answer (v.file path)
@@ -107,18 +112,18 @@ says_refused code path name v v' k k' TooLong answer known is why =
     let found = why.0.1 known in long is found.0 found.1 found.2
 says_refused code path name v v' k k' NoMemory answer known is why = nothing (inr is)
 says_refused code path name v v' k k' (WriteFailed Record) answer known is why =
-    accepted (inr is) why.bytes why.s (why.read.found known) why.read.short why.read.session why.read.formed
+    accepted (inr is) why.bytes why.s (why.read.found known) why.read.short why.read.session why.read.none_later
 says_refused code path name v v' k k' (WriteFailed Sound) answer known is why =
-    accepted (inr is) why.bytes why.s (why.read.found known) why.read.short why.read.session why.read.formed
+    accepted (inr is) why.bytes why.s (why.read.found known) why.read.short why.read.session why.read.none_later
 says_refused code path name v v' k k' (WriteFailed State) answer known is why =
-    accepted (inr is) why.bytes why.s (why.read.found known) why.read.short why.read.session why.read.formed
+    accepted (inr is) why.bytes why.s (why.read.found known) why.read.short why.read.session why.read.none_later
 says_refused code path name v v' k k' (WriteFailed Summary) answer known is why =
-    let done = why.1.1 in accepted (inr is) done.bytes done.s (done.read.found known) done.read.short done.read.session done.read.formed
+    let done = why.1.1 in accepted (inr is) done.bytes done.s (done.read.found known) done.read.short done.read.session done.read.none_later
 
 says : {F : Type 0} (code : Meaning F) (path name : List ℕ) (v v' : VaultState) (k k' : SinkState) (answer : ℕ)
     → Explains code path name v v' k k' answer → IsTrue v.tells → Says answer (v.file path)
 says code path name v v' k k' answer (inl (is, done)) known =
-    let work = done.1 in accepted (inl is) work.bytes work.s (work.read.found known) work.read.short work.read.session work.read.formed
+    let work = done.1 in accepted (inl is) work.bytes work.s (work.read.found known) work.read.short work.read.session work.read.none_later
 says code path name v v' k k' answer (inr (refusal, is, why, said)) known =
     says_refused code path name v v' k k' refusal answer known is why
 
@@ -184,10 +189,10 @@ only_later answer file (past is text which number found short over) bytes line h
     absurd (no_limit bytes form.s which number form.session (rw (same_text file bytes text here found) over))
 only_later answer file (later is text other found short first) bytes line here few form = inl is
 only_later answer file (accepted is text s found short session formed) bytes line here few form =
-    absurd (not_both bytes s line (rw (same_text file bytes text here found) formed) form.unformed)
+    absurd (not_both bytes s line (rw (same_text file bytes text here found) session) (rw (same_text file bytes text here found) formed) form)
 
 only_accepted : (answer : ℕ) (file : Option (List ℕ)) → Says answer file → (bytes : List ℕ) (s : Session) → file ≡ Some bytes
-    → length bytes ≤ most_session_bytes → IsSessionOf bytes s → IsFormed bytes s → IsOneOf answer (0 ∷ 3 ∷ 4 ∷ 14 ∷ [])
+    → length bytes ≤ most_session_bytes → IsSessionOf bytes s → HasNoLater bytes s → IsOneOf answer (0 ∷ 3 ∷ 4 ∷ 14 ∷ [])
 only_accepted answer file (nothing (inl is)) bytes s here few session form = inr (inl is)
 only_accepted answer file (nothing (inr is)) bytes s here few session form = inr (inr (inr (inl is)))
 only_accepted answer file (absent is none) bytes s here few session form = absurd (nowhere file bytes none here)
@@ -197,7 +202,7 @@ only_accepted answer file (broken is text line rule found short first) bytes s h
 only_accepted answer file (past is text which number found short over) bytes s here few session form =
     absurd (no_limit text s which number (rw (same_text file text bytes found here) session) over)
 only_accepted answer file (later is text line found short unformed) bytes s here few session form =
-    absurd (not_both text s line (rw (same_text file text bytes found here) form) unformed.unformed)
+    absurd (not_both text s line (rw (same_text file text bytes found here) session) (rw (same_text file text bytes found here) form) unformed)
 only_accepted answer file (accepted (inl is) text other found short first formed) bytes s here few session form = inl is
 only_accepted answer file (accepted (inr is) text other found short first formed) bytes s here few session form = inr (inr (inl is))
 

@@ -1,11 +1,12 @@
 -- What a refusal of `check` means, step by step to the clauses of its answer.
-use Rattle.std.proofs.Common.{◌≡◌, ◌≢◌, ℕ, ◌≤◌, ◌⊎◌, List, [], ◌∷◌, IsTrue, sym, ◌∙◌, subst, arith, inl, inr}
+use Rattle.std.proofs.Common.{◌≡◌, ◌≢◌, ℕ, ◌≤◌, ◌⊎◌, List, [], ◌∷◌, Result, Ok, Err, IsTrue, refl, sym, ◌∙◌, ap, subst, arith, inl, inr}
 use Rattle.lv_outside.specs.World.{VaultState, SinkState, LeavesFiles, IsSaid}
 use Rattle.triple_store.specs.declared.term.Triple.{Triple}
-use Rattle.turtle_read.specs.declared.fault.TurtleFault.{TurtleFault}
 use Rattle.turtle_read.specs.declared.fault.TurtleFault.TheVariants as turtle
 use Rattle.plugin_decl.specs.declared.declaration.DeclFault.{DeclFault}
 use Rattle.session_load.specs.Bundle.{IsBundle, IsUnloaded}
+use Rattle.session_load.specs.OneAnswer.{IsLoadedAs}
+use Rattle.session_load.proofs.OneLoading.{one_answer}
 use Rattle.session_load.specs.declared.fault.LoadFault.{LoadFault}
 use Rattle.session_load.specs.declared.fault.LoadFault.TheVariants.{Missing, ReadFailed, TooLong, Turtle, NoMemory}
 use Rattle.host_main.specs.Render.{IsOneOf}
@@ -15,7 +16,7 @@ use Rattle.host_main.specs.Check.{IsCaused, LeavesSink, Explains, AnswersCheck}
 use Rattle.host_main.specs.declared.checking.refusal.CheckRefusal.{CheckRefusal}
 use Rattle.host_main.specs.declared.checking.refusal.CheckRefusal.TheVariants.{Load, Undeclared, WriteFailed}
 use Rattle.host_main.proofs.Answers.{rose_later}
-use Rattle.host_main.proofs.Loading.{IsUnsure, Same, Loads, loads, faulted, turtle_loads, one_loading, same_bundle}
+use Rattle.host_main.proofs.Loading.{no_document}
 use Rattle.host_main.proofs.Plugins.{declared_or_not}
 
 -- the cause stands after the line was put
@@ -53,81 +54,72 @@ low (Turtle path (turtle.StoreFull at)) = omega arith
 low (Turtle path turtle.NoMemory) = omega arith
 low NoMemory = omega arith
 
--- What an answer says of known files: how the loading ended, or the rows and what their plug-ins declare.
+-- What an answer says of known files: nothing, or the fault that they give, or the rows and what their plug-ins declare.
 data Says (v : VaultState) (folder : List ℕ) (answer : ℕ) : Type 0 where
-  failed : 2 ≤ answer → Loads v folder answer → Says v folder answer
+  nothing : (answer ≡ 3) ⊎ (answer ≡ 14) → Says v folder answer
+  failed : (fault : LoadFault) → answer ≡ check_status (Load fault) → IsLoadedAs v folder 0 (Err fault) → Says v folder answer
   listed : (answer ≡ 0) ⊎ (answer ≡ 4) → (rows : List Triple) → IsBundle v folder 0 rows → AreDeclared rows → Says v folder answer
   refused : answer ≡ 6 → (rows : List Triple) (uri : List ℕ) (fault : DeclFault) → IsBundle v folder 0 rows → IsUndeclared rows uri fault
       → Says v folder answer
 
-says_refused : (folder : List ℕ) (v v' : VaultState) (k k' : SinkState) (refusal : CheckRefusal) (answer : ℕ) → IsTrue v.tells
+says_unloaded : (folder : List ℕ) (v v' : VaultState) (fault : LoadFault) (answer : ℕ) → answer ≡ check_status (Load fault)
+    → IsUnloaded v v' folder 0 fault → Says v folder answer
+says_unloaded folder v v' (Missing path) answer is why = failed (Missing path) is (tt, (v', why))
+says_unloaded folder v v' (TooLong path) answer is why = failed (TooLong path) is (tt, (v', why))
+says_unloaded folder v v' (Turtle path cause) answer is why = failed (Turtle path cause) is (tt, (v', why))
+says_unloaded folder v v' (ReadFailed path) answer is why = nothing (inl is)
+says_unloaded folder v v' NoMemory answer is why = nothing (inr is)
+
+says_refused : (folder : List ℕ) (v v' : VaultState) (k k' : SinkState) (refusal : CheckRefusal) (answer : ℕ)
     → answer ≡ check_status refusal → IsCaused folder v v' k k' refusal → Says v folder answer
-says_refused folder v v' k k' (Load fault) answer known is why =
-    failed (rw is (low fault)) (subst (Loads v folder) (sym is) (faulted v v' folder fault known why))
-says_refused folder v v' k k' (Undeclared uri rule) answer known is why = refused is why.0 uri why.2.0 why.1 why.2.1
-says_refused folder v v' k k' WriteFailed answer known is why = listed (inr is) why.1.0 why.1.1 why.1.2
+says_refused folder v v' k k' (Load fault) answer is why = says_unloaded folder v v' fault answer is why
+says_refused folder v v' k k' (Undeclared uri rule) answer is why = refused is why.0 uri why.2.0 why.1 why.2.1
+says_refused folder v v' k k' WriteFailed answer is why = listed (inr is) why.1.0 why.1.1 why.1.2
 
-says : (folder : List ℕ) (v v' : VaultState) (k k' : SinkState) (answer : ℕ) → IsTrue v.tells
-    → Explains folder v v' k k' answer → Says v folder answer
-says folder v v' k k' answer known (inl (is, done)) = listed (inl is) done.0 done.1 done.2
-says folder v v' k k' answer known (inr (refusal, is, why, said)) = says_refused folder v v' k k' refusal answer known is why
+says : (folder : List ℕ) (v v' : VaultState) (k k' : SinkState) (answer : ℕ) → Explains folder v v' k k' answer → Says v folder answer
+says folder v v' k k' answer (inl (is, done)) = listed (inl is) done.0 done.1 done.2
+says folder v v' k k' answer (inr (refusal, is, why, said)) = says_refused folder v v' k k' refusal answer is why
 
--- an answer of the loading that is one of two, or says nothing of the files
-one_of : (answer here : ℕ) → Same answer here → here ≢ 3 → here ≢ 14 → IsOneOf answer (here ∷ 3 ∷ 14 ∷ [])
-one_of answer here (inl same) a b = inl same
-one_of answer here (inr (inl (inl e))) a b = inr (inl e)
-one_of answer here (inr (inl (inr e))) a b = inr (inr (inl e))
-one_of answer here (inr (inr (inl e))) a b = absurd (a e)
-one_of answer here (inr (inr (inr e))) a b = absurd (b e)
+-- files that give a fault give no rows, and no other fault
+not_both : (v : VaultState) (folder : List ℕ) (rows : List Triple) (why : LoadFault) → IsTrue v.tells
+    → IsBundle v folder 0 rows → IsLoadedAs v folder 0 (Err why) → ⊥
+not_both v folder rows why known x y =
+    let same : ◌≡◌ {A = Result (List Triple) LoadFault} (Ok rows) (Err why) = one_answer v folder 0 (Ok rows) (Err why) known x y in cc
 
--- a bundle that has rows doesn't end with a fault that its files hold
-not_here : (here : ℕ) → Same 0 here → 2 ≤ here → here ≢ 3 → here ≢ 14 → ⊥
-not_here here (inl same) two a b = omega arith
-not_here here (inr (inl (inl e))) two a b = omega arith
-not_here here (inr (inl (inr e))) two a b = omega arith
-not_here here (inr (inr (inl e))) two a b = a e
-not_here here (inr (inr (inr e))) two a b = b e
+one_fault : (v : VaultState) (folder : List ℕ) (a b : LoadFault) → IsTrue v.tells
+    → IsLoadedAs v folder 0 (Err a) → IsLoadedAs v folder 0 (Err b) → a ≡ b
+one_fault v folder a b known x y =
+    let same : ◌≡◌ {A = Result (List Triple) LoadFault} (Err a) (Err b) = one_answer v folder 0 (Err a) (Err b) known x y in cc
 
-only_failed : (v : VaultState) (folder : List ℕ) (answer here : ℕ) → IsTrue v.tells → Says v folder answer → Loads v folder here
-    → 2 ≤ here → here ≢ 3 → here ≢ 14 → IsOneOf answer (here ∷ 3 ∷ 14 ∷ [])
-only_failed v folder answer here known (failed some x) y two a b = one_of answer here (one_loading v folder answer here known x y) a b
-only_failed v folder answer here known (listed is rows x all) y two a b =
-    absurd (not_here here (one_loading v folder 0 here known (loads v folder rows x) y) two a b)
-only_failed v folder answer here known (refused is rows uri fault x why) y two a b =
-    absurd (not_here here (one_loading v folder 0 here known (loads v folder rows x) y) two a b)
+same_bundle : (v : VaultState) (folder : List ℕ) (a b : List Triple) → IsTrue v.tells → IsBundle v folder 0 a → IsBundle v folder 0 b → a ≡ b
+same_bundle v folder a b known x y =
+    let same : ◌≡◌ {A = Result (List Triple) LoadFault} (Ok a) (Ok b) = one_answer v folder 0 (Ok a) (Ok b) known x y in cc
 
--- where the bundle has rows, a fault of the loading is one that no file holds
-unsure : (answer : ℕ) → 2 ≤ answer → Same answer 0 → IsUnsure answer
-unsure answer two (inl same) = absurd (omega arith)
-unsure answer two (inr (inl h)) = h
-unsure answer two (inr (inr (inl e))) = absurd (omega arith)
-unsure answer two (inr (inr (inr e))) = absurd (omega arith)
-
-unsure_refused : (answer : ℕ) → IsUnsure answer → IsOneOf answer (6 ∷ 3 ∷ 14 ∷ [])
-unsure_refused answer (inl e) = inr (inl e)
-unsure_refused answer (inr e) = inr (inr (inl e))
-
-unsure_listed : (answer : ℕ) → IsUnsure answer → IsOneOf answer (0 ∷ 3 ∷ 4 ∷ 14 ∷ [])
-unsure_listed answer (inl e) = inr (inl e)
-unsure_listed answer (inr e) = inr (inr (inr (inl e)))
-
-is_listed : (answer : ℕ) → (answer ≡ 0) ⊎ (answer ≡ 4) → IsOneOf answer (0 ∷ 3 ∷ 4 ∷ 14 ∷ [])
-is_listed answer (inl e) = inl e
-is_listed answer (inr e) = inr (inr (inl e))
+only_failed : (v : VaultState) (folder : List ℕ) (answer here : ℕ) (why : LoadFault) → IsTrue v.tells → Says v folder answer
+    → IsLoadedAs v folder 0 (Err why) → check_status (Load why) ≡ here → IsOneOf answer (here ∷ 3 ∷ 14 ∷ [])
+only_failed v folder answer here why known (nothing (inl is)) y e = inr (inl is)
+only_failed v folder answer here why known (nothing (inr is)) y e = inr (inr (inl is))
+only_failed v folder answer here why known (failed fault is x) y e =
+    inl (is ∙ (ap (λ (fault : LoadFault). check_status (Load fault)) (one_fault v folder fault why known x y) ∙ e))
+only_failed v folder answer here why known (listed is rows x all) y e = absurd (not_both v folder rows why known x y)
+only_failed v folder answer here why known (refused is rows uri fault x cause) y e = absurd (not_both v folder rows why known x y)
 
 only_refused : (v : VaultState) (folder : List ℕ) (answer : ℕ) → IsTrue v.tells → Says v folder answer → (rows : List Triple) (uri : List ℕ) (fault : DeclFault)
     → IsBundle v folder 0 rows → IsUndeclared rows uri fault → IsOneOf answer (6 ∷ 3 ∷ 14 ∷ [])
-only_refused v folder answer known (failed two x) rows uri fault y why =
-    unsure_refused answer (unsure answer two (one_loading v folder answer 0 known x (loads v folder rows y)))
+only_refused v folder answer known (nothing (inl is)) rows uri fault y why = inr (inl is)
+only_refused v folder answer known (nothing (inr is)) rows uri fault y why = inr (inr (inl is))
+only_refused v folder answer known (failed cause is x) rows uri fault y why = absurd (not_both v folder rows cause known y x)
 only_refused v folder answer known (listed is here x all) rows uri fault y why =
     absurd (declared_or_not rows uri fault (subst AreDeclared (same_bundle v folder here rows known x y) all) why)
 only_refused v folder answer known (refused is here named other x cause) rows uri fault y why = inl is
 
 only_listed : (v : VaultState) (folder : List ℕ) (answer : ℕ) → IsTrue v.tells → Says v folder answer → (rows : List Triple)
     → IsBundle v folder 0 rows → AreDeclared rows → IsOneOf answer (0 ∷ 3 ∷ 4 ∷ 14 ∷ [])
-only_listed v folder answer known (failed two x) rows y all =
-    unsure_listed answer (unsure answer two (one_loading v folder answer 0 known x (loads v folder rows y)))
-only_listed v folder answer known (listed is here x each) rows y all = is_listed answer is
+only_listed v folder answer known (nothing (inl is)) rows y all = inr (inl is)
+only_listed v folder answer known (nothing (inr is)) rows y all = inr (inr (inr (inl is)))
+only_listed v folder answer known (failed cause is x) rows y all = absurd (not_both v folder rows cause known y x)
+only_listed v folder answer known (listed (inl is) here x each) rows y all = inl is
+only_listed v folder answer known (listed (inr is) here x each) rows y all = inr (inr (inl is))
 only_listed v folder answer known (refused is here uri fault x why) rows y all =
     absurd (declared_or_not here uri fault (subst AreDeclared (same_bundle v folder rows here known y x) all) why)
 
@@ -146,17 +138,15 @@ never_usage folder v v' k k' answer (inr (refusal, is, why, said)) one = no_usag
 pub answers : (folder : List ℕ) (v v' : VaultState) (k k' : SinkState) (answer : ℕ)
     → Explains folder v v' k k' answer → LeavesFiles v v' → AnswersCheck folder v v' k k' answer
 answers folder v v' k k' answer why files =
-    let says_of = λ (known : IsTrue v.tells). says folder v v' k k' answer known why in
+    let said = says folder v v' k k' answer why in
     record {
       explained = why;
       files = files;
-      absent = λ known counts path x.
-          only_failed v folder answer 2 known (says_of known) (faulted v counts folder (Missing path) known x) (omega arith) (λ e. omega arith) (λ e. omega arith);
-      long = λ known counts path x.
-          only_failed v folder answer 9 known (says_of known) (faulted v counts folder (TooLong path) known x) (omega arith) (λ e. omega arith) (λ e. omega arith);
-      broken = λ known counts path fault x.
-          only_failed v folder answer 5 known (says_of known) (turtle_loads v counts folder path fault known x) (omega arith) (λ e. omega arith) (λ e. omega arith);
-      undeclared = λ known rows uri fault x why. only_refused v folder answer known (says_of known) rows uri fault x why;
-      declared = λ known rows x all. only_listed v folder answer known (says_of known) rows x all;
+      absent = λ known later path x. only_failed v folder answer 2 (Missing path) known said (tt, (later, x)) refl;
+      long = λ known later path x. only_failed v folder answer 9 (TooLong path) known said (tt, (later, x)) refl;
+      broken = λ known later path fault x.
+          only_failed v folder answer 5 (Turtle path fault) known said (tt, (later, x)) (no_document v later folder path fault x);
+      undeclared = λ known rows uri fault x why. only_refused v folder answer known said rows uri fault x why;
+      declared = λ known rows x all. only_listed v folder answer known said rows x all;
       formed = never_usage folder v v' k k' answer why;
     }

@@ -1,9 +1,11 @@
 pub mod Apart
+pub mod GoesOn
 pub mod Words
 pub mod Answers
 pub mod Mapped
 pub mod Lawful
 pub mod NoSession
+pub mod Listed
 pub mod Loading
 pub mod Checks
 pub mod Said

@@ -4,16 +4,10 @@ use Rattle.std.specs.Prelude.{IfErr, IsErrAnd}
 use Rattle.session_script.specs.declared.session.Session.{Session}
 use Rattle.session_script.specs.declared.fault.ScriptFault.{ScriptFault}
 use Rattle.session_script.specs.declared.fault.ScriptFault.TheVariants.{Bad, Limit, NoMemory as Want}
-use Rattle.session_script.specs.declared.first_path.fault.FirstPathFault.{FirstPathFault}
-use Rattle.session_script.specs.declared.first_path.fault.FirstPathFault.TheVariants.{Later as Unformed, NoMemory as Wanting}
 use Rattle.session_script.specs.Answer.{Refuses}
-use Rattle.session_script.specs.Script.{IsSessionOf}
-use Rattle.session_script.specs.FirstPath.Answer.{Broken}
-use Rattle.session_script.specs.FirstPath.Script.{IsSessionOf as IsFormed}
-use Rattle.session_script.proofs.FirstPath.Same.{same_session}
 use Rattle.lv_outside.specs.World.{VaultState}
-use Rattle.host_main.specs.Status.{refusal_of, refusal_of_form, most_session_bytes}
-use Rattle.host_main.specs.Render.{IsLater, IsNoSession, IsUnread}
+use Rattle.host_main.specs.Status.{refusal_of, most_session_bytes}
+use Rattle.host_main.specs.Render.{IsNoSession, IsUnread}
 use Rattle.host_main.specs.declared.refusal.Refusal.{Refusal}
 use Rattle.host_main.specs.declared.refusal.Refusal.TheVariants.{Usage, Missing, ReadFailed, WriteFailed, Script, Past, Later, TooLong, NoMemory}
 
@@ -22,18 +16,10 @@ refused bytes (Bad line rule) h = h
 refused bytes (Limit which number) h = h
 refused bytes Want h = tt
 
-pub unformed : (bytes : List ℕ) (s : Session) (fault : FirstPathFault) → IsSessionOf bytes s → Broken bytes fault → IsNoSession bytes (refusal_of_form fault)
-unformed bytes s (Unformed line) session h = record { s = s; session = session; unformed = h }
-unformed bytes s Wanting session h = tt
-
 -- a fault that is passed on as a refusal
 pub passed_on : (bytes : List ℕ) (r : Result Session Refusal) (refusal : Refusal) → IsErrAnd r (λ e. e ≡ refusal) → IsNoSession bytes refusal → IfErr r (IsNoSession bytes)
 passed_on bytes (Ok session) refusal h why = absurd h
 passed_on bytes (Err e) refusal h why = subst (IsNoSession bytes) (sym h) why
-
--- what is of the form is what the script says
-pub session_of_form : (bytes : List ℕ) (a b : Session) → IsSessionOf bytes a → IsFormed bytes b → IsSessionOf bytes b
-session_of_form bytes a b whole form = subst (IsSessionOf bytes) (same_session bytes a b whole form) whole
 
 -- a file whose script is refused
 pub unread : (path : List ℕ) (v v' : VaultState) (bytes : List ℕ) (refusal : Refusal) → length bytes ≤ most_session_bytes → (IsTrue v.tells → v.file path ≡ Some bytes)

@@ -5,6 +5,7 @@ use Rattle.turtle_read.specs.declared.fault.TurtleFault.{TurtleFault}
 use Rattle.turtle_read.specs.declared.fault.TurtleFault.TheVariants as turtle
 use Rattle.session_load.specs.declared.fault.LoadFault.{LoadFault}
 use Rattle.session_load.specs.declared.fault.LoadFault.TheVariants.{Missing, ReadFailed, TooLong, Turtle, NoMemory}
+use Rattle.host_main.specs.Status.{no_memory_line}
 use Rattle.host_main.specs.declared.checking.refusal.CheckRefusal.{CheckRefusal}
 use Rattle.host_main.specs.declared.checking.refusal.CheckRefusal.TheVariants.{Load, Undeclared, WriteFailed}
 
@@ -21,9 +22,6 @@ check_status WriteFailed = 4
 -- a file of the bundle is no document: at which byte, and what is wrong there
 abbrev pub turtle_at : List ℕ → ℕ → List ℕ → List ℕ
 turtle_at path at kind = codes "lv2fx: 5 turtle " ++ (path ++ (codes " at " ++ (decimal at ++ kind)))
-
-abbrev pub no_memory_line : List ℕ
-no_memory_line = codes "lv2fx: 14 no memory\n"
 
 abbrev pub turtle_line : List ℕ → TurtleFault → List ℕ
 turtle_line path (turtle.Lex (lex.NotUtf8 at)) = turtle_at path at (codes " utf8\n")

@@ -1,5 +1,6 @@
 pub mod Status
 pub mod Files
+pub mod GoesOn
 pub mod Render
 pub mod CheckStatus
 pub mod Listing

@@ -3,7 +3,7 @@ use Rattle.std.specs.Prelude.{◌≡◌, ◌≢◌, ℕ, ◌<◌, ◌≤◌, ◌
 use Rattle.lv_outside.specs.Count.{Rose}
 use Rattle.session_script.specs.declared.session.Session.{Session}
 use Rattle.session_script.specs.Script.{IsSessionOf, IsFirstBroken, IsPast}
-use Rattle.session_script.specs.FirstPath.Script.{IsSessionOf as IsFormed, IsFirstBroken as IsFirstUnformed}
+use Rattle.session_script.specs.Later.{first_later}
 use Rattle.session_script.specs.declared.fault.ScriptRule.{ScriptRule}
 use Rattle.session_script.specs.declared.fault.Limit.{Limit}
 use Rattle.replay_core.specs.PlainRecord.{record_of}
@@ -25,16 +25,20 @@ abbrev pub rendering_of : {F : Type 0} → Meaning F → List ℕ → Session �
 rendering_of code name s =
     let steps = record_of s in rendering name steps (sound_of code s steps) (summary_of s steps)
 
--- A script says a session, and isn't of the form that can be played so far: this is the first line that isn't.
+-- each line of a session's script can be played so far
+abbrev pub HasNoLater : List ℕ → Session → Type 0
+HasNoLater bytes s = first_later bytes s ≡ None
+
+-- a script says a session, and this is its first line that can't be played yet
 pub record IsLater (bytes : List ℕ) (line : ℕ) : Type 0 where
   pub s : Session
   pub session : IsSessionOf bytes s
-  pub unformed : IsFirstUnformed bytes line
+  pub first : first_later bytes s ≡ Some line
 
 -- the session that was read: the text of a known file, if the files are known
 pub record IsRead (path : List ℕ) (v : VaultState) (bytes : List ℕ) (s : Session) : Type 0 where
   pub session : IsSessionOf bytes s
-  pub formed : IsFormed bytes s
+  pub none_later : HasNoLater bytes s
   pub short : length bytes ≤ most_session_bytes
   pub found : IsTrue v.tells → v.file path ≡ Some bytes
 
@@ -132,5 +136,5 @@ pub record AnswersRender {F : Type 0} (code : Meaning F) (path name : List ℕ) 
   pub later : IsTrue v.tells → (bytes : List ℕ) (line : ℕ) → v.file path ≡ Some bytes → length bytes ≤ most_session_bytes
       → IsLater bytes line → IsOneOf answer (7 ∷ 3 ∷ 14 ∷ [])
   pub accepted : IsTrue v.tells → (bytes : List ℕ) (s : Session) → v.file path ≡ Some bytes → length bytes ≤ most_session_bytes
-      → IsSessionOf bytes s → IsFormed bytes s → IsOneOf answer (0 ∷ 3 ∷ 4 ∷ 14 ∷ [])
+      → IsSessionOf bytes s → HasNoLater bytes s → IsOneOf answer (0 ∷ 3 ∷ 4 ∷ 14 ∷ [])
   pub formed : answer ≢ 1

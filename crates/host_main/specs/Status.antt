@@ -8,8 +8,6 @@ use Rattle.session_script.specs.declared.fault.Limit.{Limit}
 use Rattle.session_script.specs.declared.fault.Limit.TheVariants.{Bundles, Instances, Cables, Outputs, Actions, Saves, Samples}
 use Rattle.session_script.specs.declared.fault.ScriptFault.{ScriptFault}
 use Rattle.session_script.specs.declared.fault.ScriptFault.TheVariants.{Bad, Limit as Over, NoMemory as Want}
-use Rattle.session_script.specs.declared.first_path.fault.FirstPathFault.{FirstPathFault}
-use Rattle.session_script.specs.declared.first_path.fault.FirstPathFault.TheVariants.{Later as Unformed, NoMemory as Wanting}
 use Rattle.host_main.specs.declared.refusal.Target.{Target}
 use Rattle.host_main.specs.declared.refusal.Target.TheVariants.{Record, Sound, State, Summary}
 
@@ -37,6 +35,9 @@ name_of Summary name = codes "-"
 
 abbrev pub usage_line : List ℕ
 usage_line = codes "lv2fx: 1 usage: check BUNDLE | render SESSION OUT | play SESSION OUT | replay SESSION RECORD OUT | gen NUMBER OUT\n"
+
+abbrev pub no_memory_line : List ℕ
+no_memory_line = codes "lv2fx: 14 no memory\n"
 
 -- what each rule of a script is called
 abbrev pub rule_text : ScriptRule → List ℕ
@@ -82,14 +83,10 @@ line_of session name (Script line rule) = codes "lv2fx: 7 script line " ++ (deci
 line_of session name (Later line) = codes "lv2fx: 7 script line " ++ (decimal line ++ codes " later\n")
 line_of session name (Past which number) = limit_front which ++ (decimal number ++ codes "\n")
 line_of session name TooLong = codes "lv2fx: 9 limit file 16777216\n"
-line_of session name NoMemory = codes "lv2fx: 14 no memory\n"
+line_of session name NoMemory = no_memory_line
 
 -- the refusal of what the reader of scripts answers
 abbrev pub refusal_of : ScriptFault → Refusal
 refusal_of (Bad line rule) = Script line rule
 refusal_of (Over which number) = Past which number
 refusal_of Want = NoMemory
-
-abbrev pub refusal_of_form : FirstPathFault → Refusal
-refusal_of_form (Unformed line) = Later line
-refusal_of_form Wanting = NoMemory

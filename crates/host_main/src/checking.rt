@@ -1,15 +1,15 @@
 ghost use Rattle.std.specs.Prelude.{◌≡◌, List, IfOk, IfErr, OnOk};
 ghost use Rattle.triple_store.specs.declared.term.Triple.{Triple};
 ghost use Rattle.lv_outside.specs.World.{vault_at, sink_at, LeavesFiles};
-ghost use Rattle.session_load.specs.Bundle.{IsBundle};
+ghost use Rattle.session_load.specs.Bundle.{IsBundle, IsUnloaded};
 ghost use Rattle.host_main.specs.Listing.{check_listing, AreDeclared};
+ghost use Rattle.host_main.specs.PluginRefusals.{IsPluginRefusal};
+ghost use Rattle.host_main.specs.GoesOn.{VaultGoesOn, SinkGoesOn};
 ghost use Rattle.host_main.specs.Check.{folder_of, IsListed, IsUnlisted, IsCaused, LeavesSink, Explains, AnswersCheck};
 
 mod plugins;
 mod refusal;
 mod say;
-#[cfg(test)]
-mod tests;
 
 use crate::refusal::DONE;
 use lv_base::{Bytes, Text};
@@ -17,7 +17,9 @@ use lv_outside::{Put, Sink, Vault};
 use plugins::push_plugins;
 use refusal::CheckRefusal;
 use say::say;
+use session_load::LoadFault;
 use std::alloc::Global;
+use triple_store::Store;
 
 /// Lists the bundle in a folder: its triples, one a line, and their number; then the number of its
 /// plug-ins, and a line for each and for each of its ports. One `/` at the end of the folder's name
@@ -29,10 +31,14 @@ use std::alloc::Global;
 /// a limit of the reader, 6 the first plug-in that breaks a rule of declarations, 9 a file is
 /// longer than 16 MiB, 14 no memory. It writes no file.
 pub fn run_check<V: Vault, K: Sink>(alloc: Global, bundle: &Text, vault: &mut V, out: &mut K) -> u8
-    ensures { AnswersCheck (folder_of bundle.now)
+    ensures answers { AnswersCheck (folder_of bundle.now)
         (vault_at V.tells V.file V.faults V.absences V.longs vault.old)
         (vault_at V.tells V.file V.faults V.absences V.longs vault.new)
         (sink_at K.tells K.taken K.faults out.old) (sink_at K.tells K.taken K.faults out.new) result }
+    ensures vault { VaultGoesOn
+        (vault_at V.tells V.file V.faults V.absences V.longs vault.old)
+        (vault_at V.tells V.file V.faults V.absences V.longs vault.new) }
+    ensures sink { SinkGoesOn (sink_at K.tells K.taken K.faults out.old) (sink_at K.tells K.taken K.faults out.new) }
 {
     answer(alloc, bundle, vault, out)
 }
@@ -46,6 +52,10 @@ fn answer<V: Vault, K: Sink>(alloc: Global, bundle: &Text, vault: &mut V, out: &
     ensures files { LeavesFiles
         (vault_at V.tells V.file V.faults V.absences V.longs vault.old)
         (vault_at V.tells V.file V.faults V.absences V.longs vault.new) }
+    ensures vault { VaultGoesOn
+        (vault_at V.tells V.file V.faults V.absences V.longs vault.old)
+        (vault_at V.tells V.file V.faults V.absences V.longs vault.new) }
+    ensures sink { SinkGoesOn (sink_at K.tells K.taken K.faults out.old) (sink_at K.tells K.taken K.faults out.new) }
 {
     match check_to(alloc, bundle, vault, out) {
         Ok(()) => DONE,
@@ -74,6 +84,10 @@ fn check_to<V: Vault, K: Sink>(
     ensures files { LeavesFiles
         (vault_at V.tells V.file V.faults V.absences V.longs vault.old)
         (vault_at V.tells V.file V.faults V.absences V.longs vault.new) }
+    ensures vault { VaultGoesOn
+        (vault_at V.tells V.file V.faults V.absences V.longs vault.old)
+        (vault_at V.tells V.file V.faults V.absences V.longs vault.new) }
+    ensures sink { SinkGoesOn (sink_at K.tells K.taken K.faults out.old) (sink_at K.tells K.taken K.faults out.new) }
 {
     let listing = listing(alloc, bundle, vault)?;
     match out.put(listing.as_slice()) {
@@ -93,12 +107,40 @@ fn listing<V: Vault>(alloc: Global, bundle: &Text, vault: &mut V) -> Result<Byte
     ensures files { LeavesFiles
         (vault_at V.tells V.file V.faults V.absences V.longs vault.old)
         (vault_at V.tells V.file V.faults V.absences V.longs vault.new) }
+    ensures goes_on { VaultGoesOn
+        (vault_at V.tells V.file V.faults V.absences V.longs vault.old)
+        (vault_at V.tells V.file V.faults V.absences V.longs vault.new) }
+{
+    let store = load(alloc, bundle, vault)?;
+    listing_of(alloc, &store)
+}
+
+// The rows of the bundle in a folder.
+fn load<V: Vault>(alloc: Global, bundle: &Text, vault: &mut V) -> Result<Store, LoadFault>
+    ensures ok { IfOk result (IsBundle (vault_at V.tells V.file V.faults V.absences V.longs vault.old) (folder_of bundle.now) 0) }
+    ensures err { IfErr result (IsUnloaded
+        (vault_at V.tells V.file V.faults V.absences V.longs vault.old)
+        (vault_at V.tells V.file V.faults V.absences V.longs vault.new) (folder_of bundle.now) 0) }
+    ensures files { LeavesFiles
+        (vault_at V.tells V.file V.faults V.absences V.longs vault.old)
+        (vault_at V.tells V.file V.faults V.absences V.longs vault.new) }
+    ensures goes_on { VaultGoesOn
+        (vault_at V.tells V.file V.faults V.absences V.longs vault.old)
+        (vault_at V.tells V.file V.faults V.absences V.longs vault.new) }
 {
     let folder = Text::from_str(alloc, folder_of(bundle.as_str()))?;
-    let store = session_load::bundle(alloc, &folder, 0, vault)?;
+    session_load::bundle(alloc, &folder, 0, vault)
+}
+
+// What is listed of a bundle's rows.
+fn listing_of(alloc: Global, store: &Store) -> Result<Bytes, CheckRefusal>
+    ensures declared { IfOk result (λ _. AreDeclared store.now) }
+    ensures lines { IfOk result (λ listing. listing ≡ check_listing store.now) }
+    ensures err { IfErr result (IsPluginRefusal store.now) }
+{
     let mut listing = Bytes::new(alloc);
     triple_list::push_listing(&mut listing, store.rows())?;
-    push_plugins(alloc, &mut listing, &store)?;
+    push_plugins(alloc, &mut listing, store)?;
     Ok(listing)
 }
 

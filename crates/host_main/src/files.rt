@@ -1,10 +1,15 @@
 ghost use Rattle.std.specs.Prelude.{◌≡◌, ◌++◌, IfOk};
+ghost use Rattle.step_record.specs.RecordText.{record_text};
+ghost use Rattle.replay_core.specs.StateText.{state_text};
+ghost use Rattle.host_main.specs.Status.{name_of};
+ghost use Rattle.host_main.specs.declared.refusal.Target.TheVariants.{Record as Steps, State};
 
 use crate::refusal::Target;
 use lv_base::{Bytes, NoMemory, Text};
 use lv_outside::{Put, Vault};
 use replay_core::Outcome;
 use std::alloc::Global;
+use step_record::Record;
 
 /// A file to be written.
 #[derive(Debug, Drop)]
@@ -25,6 +30,8 @@ pub struct Rendering {
 impl Rendering {
     ghost use Rattle.std.specs.Prelude.{◌≡◌, ◌++◌, IfOk, IfErr, OnOk, IsTrue};
     ghost use Rattle.lv_outside.specs.Count.{Rose};
+    ghost use Rattle.lv_outside.specs.World.{vault_at};
+    ghost use Rattle.host_main.specs.GoesOn.{VaultGoesOn};
     ghost use Rattle.host_main.specs.Files.{rendering, IsFile, AreApart, HoldsAll, HoldsBefore};
 
     /// What a run's outcome is written as, under this name.
@@ -36,19 +43,13 @@ impl Rendering {
             pcm,
             summary,
         } = outcome;
+        let state = state_file(alloc, name)?;
+        let sound = file_of(alloc, name, ".pcm", pcm)?;
+        let steps = steps_file(alloc, name, &steps)?;
         Ok(Rendering {
-            steps: File {
-                path: path_of(alloc, name, ".rec")?,
-                bytes: step_record::write(alloc, &steps)?,
-            },
-            sound: File {
-                path: path_of(alloc, name, ".pcm")?,
-                bytes: pcm,
-            },
-            state: File {
-                path: path_of(alloc, name, ".ttl")?,
-                bytes: Bytes::from_slice(alloc, replay_core::STATE_TEXT.as_bytes())?,
-            },
+            steps,
+            sound,
+            state,
             summary,
         })
     }
@@ -59,6 +60,9 @@ impl Rendering {
         ensures ok { OnOk result (IsTrue (V.tells vault.old) → HoldsAll self.now (V.file vault.old) (V.file vault.new)) }
         ensures file { IfErr result IsFile }
         ensures failed { IfErr result (λ _. Rose (V.faults vault.old) (V.faults vault.new)) }
+        ensures goes_on { VaultGoesOn
+            (vault_at V.tells V.file V.faults V.absences V.longs vault.old)
+            (vault_at V.tells V.file V.faults V.absences V.longs vault.new) }
         ensures err { IfErr result (λ target. IsTrue (V.tells vault.old)
             → HoldsBefore target self.now (V.file vault.old) (V.file vault.new)) }
     {
@@ -73,6 +77,44 @@ impl Rendering {
         }
         Ok(())
     }
+
+    /// The summary alone.
+    pub fn into_summary(self) -> Bytes
+        ensures { result ≡ self.summary }
+    {
+        let Rendering {
+            steps,
+            sound,
+            state,
+            summary,
+        } = self;
+        drop(steps);
+        drop(sound);
+        drop(state);
+        summary
+    }
+}
+
+fn state_file(alloc: Global, name: &Text) -> Result<File, NoMemory>
+    ensures { IfOk result (λ file. file ≡ record { path = name_of State name.now; bytes = state_text }) }
+{
+    let text = Bytes::from_slice(alloc, replay_core::STATE_TEXT.as_bytes())?;
+    file_of(alloc, name, ".ttl", text)
+}
+
+fn steps_file(alloc: Global, name: &Text, steps: &Record) -> Result<File, NoMemory>
+    ensures { IfOk result (λ file. file ≡ record { path = name_of Steps name.now; bytes = record_text steps.now }) }
+{
+    let text = step_record::write(alloc, steps)?;
+    file_of(alloc, name, ".rec", text)
+}
+
+/// A file under this name, with this ending.
+fn file_of(alloc: Global, name: &Text, ending: &str, bytes: Bytes) -> Result<File, NoMemory>
+    ensures { IfOk result (λ file. file ≡ record { path = name.now ++ ending.now; bytes = bytes }) }
+{
+    let path = path_of(alloc, name, ending)?;
+    Ok(File { path, bytes })
 }
 
 fn path_of(alloc: Global, name: &Text, ending: &str) -> Result<Bytes, NoMemory>

@@ -9,12 +9,10 @@ mod refusal;
 mod rendering;
 mod say;
 mod stock;
-#[cfg(test)]
-mod tests;
 mod top;
 
 pub use checking::run_check;
 pub use refusal::{DONE, Refusal, Target};
 pub use rendering::run_render;
 pub use stock::{Stock, StockFront};
-pub use top::host_main;
+pub use top::{host_main, without_words};

@@ -1,15 +1,15 @@
 ghost use Rattle.std.specs.Prelude.{◌≡◌, ℕ, ◌≤◌, List, length, IfOk, IfErr, IsTrue, Some};
-ghost use Rattle.session_script.specs.FirstPath.Valid.{IsValid};
+ghost use Rattle.session_script.specs.Playable.{IsPlayable};
 ghost use Rattle.host_main.specs.Status.{most_session_bytes};
 ghost use Rattle.lv_outside.specs.World.{vault_at, LeavesFiles};
 ghost use Rattle.session_script.specs.Script.{IsSessionOf};
-ghost use Rattle.session_script.specs.FirstPath.Script.{IsSessionOf as IsFormed};
-ghost use Rattle.host_main.specs.Render.{IsRead, IsNoSession, IsUnread};
+ghost use Rattle.host_main.specs.GoesOn.{VaultGoesOn};
+ghost use Rattle.host_main.specs.Render.{HasNoLater, IsRead, IsNoSession, IsUnread};
 
 use crate::refusal::Refusal;
 use lv_base::{Bytes, Text};
 use lv_outside::{Fetch, Vault};
-use session_script::{Session, first_path};
+use session_script::{Session, first_later};
 use std::alloc::Global;
 
 /// The most bytes of a session: 16 MiB.
@@ -19,32 +19,35 @@ const MOST_SESSION_BYTES: u64 = 16_777_216;
 pub fn read_session<V: Vault>(alloc: Global, path: &Text, vault: &mut V) -> Result<Session, Refusal>
     ensures ok { IfOk result (λ s. (bytes : List ℕ)
         × IsRead path.now (vault_at V.tells V.file V.faults V.absences V.longs vault.old) bytes s) }
-    ensures valid { IfOk result IsValid }
+    ensures playable { IfOk result IsPlayable }
     ensures err { IfErr result (IsUnread path.now
         (vault_at V.tells V.file V.faults V.absences V.longs vault.old)
         (vault_at V.tells V.file V.faults V.absences V.longs vault.new)) }
     ensures files { LeavesFiles
         (vault_at V.tells V.file V.faults V.absences V.longs vault.old)
         (vault_at V.tells V.file V.faults V.absences V.longs vault.new) }
-    ensures known { IsTrue (V.tells vault.old) → IsTrue (V.tells vault.new) }
-    ensures later { V.faults vault.old ≤ V.faults vault.new }
+    ensures goes_on { VaultGoesOn
+        (vault_at V.tells V.file V.faults V.absences V.longs vault.old)
+        (vault_at V.tells V.file V.faults V.absences V.longs vault.new) }
 {
     let bytes = fetch(alloc, path, vault)?;
     let session = session_in(alloc, bytes.as_slice())?;
     Ok(session)
 }
 
-// The session that a script says, if it is of the form that can be played so far.
+// The session that a script says, if each of its lines can be played so far.
 fn session_in(alloc: Global, bytes: &[u8]) -> Result<Session, Refusal>
     requires { length bytes.now ≤ most_session_bytes }
     ensures session { IfOk result (IsSessionOf bytes.now) }
-    ensures formed { IfOk result (IsFormed bytes.now) }
-    ensures valid { IfOk result IsValid }
+    ensures none_later { IfOk result (HasNoLater bytes.now) }
+    ensures playable { IfOk result IsPlayable }
     ensures err { IfErr result (IsNoSession bytes.now) }
 {
-    session_script::read(alloc, bytes)?;
-    let session = first_path::read(alloc, bytes)?;
-    Ok(session)
+    let session = session_script::read(alloc, bytes)?;
+    match first_later(bytes, &session) {
+        None => Ok(session),
+        Some(line) => Err(Refusal::Later(line)),
+    }
 }
 
 // The whole file of a session.
@@ -57,8 +60,9 @@ fn fetch<V: Vault>(alloc: Global, path: &Text, vault: &mut V) -> Result<Bytes, R
     ensures files { LeavesFiles
         (vault_at V.tells V.file V.faults V.absences V.longs vault.old)
         (vault_at V.tells V.file V.faults V.absences V.longs vault.new) }
-    ensures known { IsTrue (V.tells vault.old) → IsTrue (V.tells vault.new) }
-    ensures later { V.faults vault.old ≤ V.faults vault.new }
+    ensures goes_on { VaultGoesOn
+        (vault_at V.tells V.file V.faults V.absences V.longs vault.old)
+        (vault_at V.tells V.file V.faults V.absences V.longs vault.new) }
 {
     let mut bytes = Bytes::new(alloc);
     match vault.read(path.as_bytes(), MOST_SESSION_BYTES, &mut bytes) {

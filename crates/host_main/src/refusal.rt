@@ -1,9 +1,8 @@
 ghost use Rattle.std.specs.Prelude.{◌≡◌};
-ghost use Rattle.host_main.specs.Status.{status_of, refusal_of, refusal_of_form};
+ghost use Rattle.host_main.specs.Status.{status_of, refusal_of};
 ghost use Rattle.host_main.specs.declared.refusal.Refusal.TheVariants.{NoMemory};
 
 use lv_base::NoMemory as OutOfMemory;
-use session_script::first_path::FirstPathFault;
 use session_script::{Limit, ScriptFault, ScriptRule};
 
 /// The status of a run whose work was done and whose every write succeeded.
@@ -73,17 +72,6 @@ impl From<ScriptFault> for Refusal {
             ScriptFault::Bad(line, rule) => Refusal::Script(line, rule),
             ScriptFault::Limit(which, number) => Refusal::Past(which, number),
             ScriptFault::NoMemory => Refusal::NoMemory,
-        }
-    }
-}
-
-impl From<FirstPathFault> for Refusal {
-    ghost from_gives = { λ fault refusal. refusal ≡ refusal_of_form fault };
-
-    fn from(fault: FirstPathFault) -> Self {
-        match fault {
-            FirstPathFault::Later(line) => Refusal::Later(line),
-            FirstPathFault::NoMemory => Refusal::NoMemory,
         }
     }
 }

@@ -1,10 +1,11 @@
-ghost use Rattle.std.specs.Prelude.{◌≡◌, ◌<◌, IfOk, IfErr, OnOk};
+ghost use Rattle.std.specs.Prelude.{◌≡◌, ℕ, List, IfOk, IfErr, OnOk};
 ghost use Rattle.session_script.specs.declared.session.Session.{Session};
-ghost use Rattle.session_script.specs.FirstPath.Valid.{IsValid};
+ghost use Rattle.session_script.specs.Playable.{IsPlayable};
 ghost use Rattle.replay_core.specs.Play.{meaning_of};
-ghost use Rattle.lv_outside.specs.World.{vault_at, sink_at};
-ghost use Rattle.host_main.specs.Render.{rendering_of, AnswersRender, Explains, IsDone, IsCaused, IsRendered, IsUnrendered, LeavesSink};
+ghost use Rattle.lv_outside.specs.World.{vault_at, sink_at, LeavesFiles};
+ghost use Rattle.host_main.specs.Render.{rendering_of, AnswersRender, Explains, IsDone, IsCaused, IsRead, IsUnread, IsRendered, IsUnrendered, LeavesSink};
 ghost use Rattle.host_main.specs.Files.{AreApart};
+ghost use Rattle.host_main.specs.GoesOn.{VaultGoesOn, SinkGoesOn};
 
 use crate::files::Rendering;
 use crate::reading::read_session;
@@ -30,12 +31,16 @@ pub fn run_render<V: Vault, K: Sink, C: Codes>(
     out: &mut K,
     codes: &C,
 ) -> u8
-    ensures { AnswersRender
+    ensures answers { AnswersRender
         (meaning_of C.make_of C.Front.activate_of C.Front.run_of C.Front.deactivate_of)
         session.now name.now
         (vault_at V.tells V.file V.faults V.absences V.longs vault.old)
         (vault_at V.tells V.file V.faults V.absences V.longs vault.new)
         (sink_at K.tells K.taken K.faults out.old) (sink_at K.tells K.taken K.faults out.new) result }
+    ensures vault { VaultGoesOn
+        (vault_at V.tells V.file V.faults V.absences V.longs vault.old)
+        (vault_at V.tells V.file V.faults V.absences V.longs vault.new) }
+    ensures sink { SinkGoesOn (sink_at K.tells K.taken K.faults out.old) (sink_at K.tells K.taken K.faults out.new) }
 {
     answer(alloc, session, name, vault, out, codes)
 }
@@ -49,12 +54,16 @@ fn answer<V: Vault, K: Sink, C: Codes>(
     out: &mut K,
     codes: &C,
 ) -> u8
-    ensures { Explains
+    ensures explained { Explains
         (meaning_of C.make_of C.Front.activate_of C.Front.run_of C.Front.deactivate_of)
         session.now name.now
         (vault_at V.tells V.file V.faults V.absences V.longs vault.old)
         (vault_at V.tells V.file V.faults V.absences V.longs vault.new)
         (sink_at K.tells K.taken K.faults out.old) (sink_at K.tells K.taken K.faults out.new) result }
+    ensures vault { VaultGoesOn
+        (vault_at V.tells V.file V.faults V.absences V.longs vault.old)
+        (vault_at V.tells V.file V.faults V.absences V.longs vault.new) }
+    ensures sink { SinkGoesOn (sink_at K.tells K.taken K.faults out.old) (sink_at K.tells K.taken K.faults out.new) }
 {
     match render_to(alloc, session, name, vault, out, codes) {
         Ok(()) => DONE,
@@ -87,6 +96,10 @@ fn render_to<V: Vault, K: Sink, C: Codes>(
         (sink_at K.tells K.taken K.faults out.old) (sink_at K.tells K.taken K.faults out.new)) }
     ensures quiet { IfErr result (λ refusal. LeavesSink refusal
         (sink_at K.tells K.taken K.faults out.old) (sink_at K.tells K.taken K.faults out.new)) }
+    ensures vault { VaultGoesOn
+        (vault_at V.tells V.file V.faults V.absences V.longs vault.old)
+        (vault_at V.tells V.file V.faults V.absences V.longs vault.new) }
+    ensures sink { SinkGoesOn (sink_at K.tells K.taken K.faults out.old) (sink_at K.tells K.taken K.faults out.new) }
 {
     let summary = render_files(alloc, session, name, vault, codes)?;
     match out.put(summary.as_slice()) {
@@ -113,16 +126,43 @@ fn render_files<V: Vault, C: Codes>(
         path.now name.now
         (vault_at V.tells V.file V.faults V.absences V.longs vault.old)
         (vault_at V.tells V.file V.faults V.absences V.longs vault.new)) }
+    ensures goes_on { VaultGoesOn
+        (vault_at V.tells V.file V.faults V.absences V.longs vault.old)
+        (vault_at V.tells V.file V.faults V.absences V.longs vault.new) }
+{
+    let rendering = rendering_at(alloc, path, name, vault, codes)?;
+    match rendering.write(vault) {
+        Ok(()) => Ok(rendering.into_summary()),
+        Err(target) => Err(Refusal::WriteFailed(target)),
+    }
+}
+
+// All that the run of the session at a path writes.
+fn rendering_at<V: Vault, C: Codes>(
+    alloc: Global,
+    path: &Text,
+    name: &Text,
+    vault: &mut V,
+    codes: &C,
+) -> Result<Rendering, Refusal>
+    ensures ok { IfOk result (λ made. (bytes : List ℕ) × (s : Session)
+        × IsRead path.now (vault_at V.tells V.file V.faults V.absences V.longs vault.old) bytes s
+        × (made ≡ rendering_of
+        (meaning_of C.make_of C.Front.activate_of C.Front.run_of C.Front.deactivate_of) name.now s)) }
+    ensures apart { IfOk result AreApart }
+    ensures err { IfErr result (IsUnread path.now
+        (vault_at V.tells V.file V.faults V.absences V.longs vault.old)
+        (vault_at V.tells V.file V.faults V.absences V.longs vault.new)) }
+    ensures files { LeavesFiles
+        (vault_at V.tells V.file V.faults V.absences V.longs vault.old)
+        (vault_at V.tells V.file V.faults V.absences V.longs vault.new) }
+    ensures goes_on { VaultGoesOn
+        (vault_at V.tells V.file V.faults V.absences V.longs vault.old)
+        (vault_at V.tells V.file V.faults V.absences V.longs vault.new) }
 {
     let session = read_session(alloc, path, vault)?;
     let rendering = rendering_for(alloc, name, &session, codes)?;
-    match rendering.write(vault) {
-        Ok(()) => {
-            let Rendering { summary, .. } = rendering;
-            Ok(summary)
-        }
-        Err(target) => Err(Refusal::WriteFailed(target)),
-    }
+    Ok(rendering)
 }
 
 // All that the run of a session writes.
@@ -132,7 +172,7 @@ fn rendering_for<C: Codes>(
     session: &Session,
     codes: &C,
 ) -> Result<Rendering, NoMemory>
-    requires { IsValid session.now }
+    requires { IsPlayable session.now }
     ensures value { IfOk result (λ made. made ≡ rendering_of
         (meaning_of C.make_of C.Front.activate_of C.Front.run_of C.Front.deactivate_of)
         name.now session.now) }

@@ -1,6 +1,7 @@
-ghost use Rattle.std.specs.Prelude.{◌≡◌, ◌++◌, ◌≤◌, ℕ, List};
-ghost use Rattle.host_main.specs.Status.{line_of, usage_line, rule_end, limit_front};
+ghost use Rattle.std.specs.Prelude.{◌≡◌, ◌++◌, ℕ, List};
+ghost use Rattle.host_main.specs.Status.{line_of, usage_line, no_memory_line, rule_end, limit_front};
 ghost use Rattle.lv_outside.specs.World.{sink_at, IsSaid};
+ghost use Rattle.host_main.specs.GoesOn.{SinkGoesOn};
 
 use crate::refusal::{Refusal, Target};
 use itoa::Buffer;
@@ -16,7 +17,7 @@ const SCRIPT_LINE: &str = "lv2fx: 7 script line ";
 /// Puts the line that lists the commands.
 pub fn say_usage<K: Sink>(out: &mut K)
     ensures said { IsSaid (sink_at K.tells K.taken K.faults out.old) (sink_at K.tells K.taken K.faults out.new) usage_line }
-    ensures later { K.faults out.old ≤ K.faults out.new }
+    ensures goes_on { SinkGoesOn (sink_at K.tells K.taken K.faults out.old) (sink_at K.tells K.taken K.faults out.new) }
 {
     put_line(out, USAGE, "", "");
 }
@@ -26,7 +27,7 @@ pub fn say_usage<K: Sink>(out: &mut K)
 pub fn say<K: Sink>(refusal: Refusal, session: &Text, name: &Text, out: &mut K)
     ensures said { IsSaid (sink_at K.tells K.taken K.faults out.old) (sink_at K.tells K.taken K.faults out.new)
         (line_of session.now name.now refusal) }
-    ensures later { K.faults out.old ≤ K.faults out.new }
+    ensures goes_on { SinkGoesOn (sink_at K.tells K.taken K.faults out.old) (sink_at K.tells K.taken K.faults out.new) }
 {
     let mut digits = Buffer::new();
     match refusal {
@@ -42,14 +43,22 @@ pub fn say<K: Sink>(refusal: Refusal, session: &Text, name: &Text, out: &mut K)
             put_line(out, limit_front(which), digits.format(number), "\n");
         }
         Refusal::TooLong => put_line(out, "lv2fx: 9 limit file ", "16777216", "\n"),
-        Refusal::NoMemory => put_line(out, "lv2fx: 14 no memory\n", "", ""),
+        Refusal::NoMemory => say_no_memory(out),
     }
+}
+
+/// Puts the line of a want of memory.
+pub(crate) fn say_no_memory<K: Sink>(out: &mut K)
+    ensures said { IsSaid (sink_at K.tells K.taken K.faults out.old) (sink_at K.tells K.taken K.faults out.new) no_memory_line }
+    ensures goes_on { SinkGoesOn (sink_at K.tells K.taken K.faults out.old) (sink_at K.tells K.taken K.faults out.new) }
+{
+    put_line(out, "lv2fx: 14 no memory\n", "", "");
 }
 
 fn say_write_failed<K: Sink>(target: Target, name: &Text, out: &mut K)
     ensures said { (session : List ℕ) → IsSaid (sink_at K.tells K.taken K.faults out.old) (sink_at K.tells K.taken K.faults out.new)
         (line_of session name.now (Refusal.WriteFailed target)) }
-    ensures later { K.faults out.old ≤ K.faults out.new }
+    ensures goes_on { SinkGoesOn (sink_at K.tells K.taken K.faults out.old) (sink_at K.tells K.taken K.faults out.new) }
 {
     let front = "lv2fx: 4 write failed ";
     match target {
@@ -101,7 +110,7 @@ fn limit_front(which: Limit) -> &'static str
 pub(crate) fn put_line<K: Sink>(out: &mut K, front: &str, middle: &str, end: &str)
     ensures said { IsSaid (sink_at K.tells K.taken K.faults out.old) (sink_at K.tells K.taken K.faults out.new)
         (front.now ++ (middle.now ++ end.now)) }
-    ensures later { K.faults out.old ≤ K.faults out.new }
+    ensures goes_on { SinkGoesOn (sink_at K.tells K.taken K.faults out.old) (sink_at K.tells K.taken K.faults out.new) }
 {
     put_pieces(out, front.as_bytes(), middle.as_bytes(), end.as_bytes());
 }
@@ -110,7 +119,7 @@ pub(crate) fn put_line<K: Sink>(out: &mut K, front: &str, middle: &str, end: &st
 pub(crate) fn put_pieces<K: Sink>(out: &mut K, front: &[u8], middle: &[u8], end: &[u8])
     ensures said { IsSaid (sink_at K.tells K.taken K.faults out.old) (sink_at K.tells K.taken K.faults out.new)
         (front.now ++ (middle.now ++ end.now)) }
-    ensures later { K.faults out.old ≤ K.faults out.new }
+    ensures goes_on { SinkGoesOn (sink_at K.tells K.taken K.faults out.old) (sink_at K.tells K.taken K.faults out.new) }
 {
     if out.put(front) == Put::Failed {
         return;

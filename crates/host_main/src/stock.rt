@@ -68,6 +68,3 @@ impl Front for StockFront {
 
     ghost run_keeps = { λ front given. refl };
 }
-
-#[cfg(test)]
-mod tests;

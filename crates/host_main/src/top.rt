@@ -1,5 +1,6 @@
 ghost use Rattle.std.specs.Prelude.{◌≡◌, ℕ, List};
-ghost use Rattle.host_main.specs.Status.{usage_line};
+ghost use Rattle.host_main.specs.Status.{usage_line, no_memory_line};
+ghost use Rattle.host_main.specs.GoesOn.{VaultGoesOn, SinkGoesOn};
 ghost use Rattle.host_main.specs.Words.{IsCheck, IsRender, IsOfNoForm};
 ghost use Rattle.replay_core.specs.Play.{meaning_of};
 ghost use Rattle.lv_outside.specs.World.{vault_at, sink_at, LeavesFiles, IsSaid};
@@ -10,7 +11,7 @@ use crate::checking::run_check;
 use crate::command::{Command, command_of};
 use crate::refusal::Refusal;
 use crate::rendering::run_render;
-use crate::say::say_usage;
+use crate::say::{say_no_memory, say_usage};
 use lv_base::Text;
 use lv_outside::{Gate, Sink, Vault};
 use plug_api::Codes;
@@ -45,6 +46,12 @@ pub fn host_main<V: Vault, K: Sink, C: Codes + Sync, G: Gate + Sync>(
     ensures usage_files { IsOfNoForm words.now → LeavesFiles
         (vault_at V.tells V.file V.faults V.absences V.longs vault.old)
         (vault_at V.tells V.file V.faults V.absences V.longs vault.new) }
+
+    // Whatever the words are, what was told stays told, and no count falls.
+    ensures vault { VaultGoesOn
+        (vault_at V.tells V.file V.faults V.absences V.longs vault.old)
+        (vault_at V.tells V.file V.faults V.absences V.longs vault.new) }
+    ensures sink { SinkGoesOn (sink_at K.tells K.taken K.faults out.old) (sink_at K.tells K.taken K.faults out.new) }
 {
     let _gate = gate;
     match command_of(words) {
@@ -57,4 +64,15 @@ pub fn host_main<V: Vault, K: Sink, C: Codes + Sync, G: Gate + Sync>(
             Refusal::Usage.status()
         }
     }
+}
+
+/// Answers where the words can't be copied for want of memory, as every other want of memory is answered: puts the line,
+/// and gives 14.
+pub fn without_words<K: Sink>(out: &mut K) -> u8
+    ensures status { result ≡ 14 }
+    ensures said { IsSaid (sink_at K.tells K.taken K.faults out.old) (sink_at K.tells K.taken K.faults out.new) no_memory_line }
+    ensures sink { SinkGoesOn (sink_at K.tells K.taken K.faults out.old) (sink_at K.tells K.taken K.faults out.new) }
+{
+    say_no_memory(out);
+    Refusal::NoMemory.status()
 }

@@ -3,11 +3,11 @@
 
 mod dots;
 mod excluded;
+mod iri;
 mod parts;
 mod target;
-#[cfg(test)]
-mod tests;
 
 pub use excluded::{bad_char, is_excluded};
+pub use iri::is_iri;
 pub use parts::{Parts, has_scheme, split};
 pub use target::{IriFault, resolve};

@@ -8,7 +8,7 @@ use memchr::{memchr, memchr2, memchr3};
 /// Where the components of a reference lie, each from its first byte up to the place after its last: RFC 3986, appendix B.
 ///
 /// `None` says that a component isn't there, which differs from an empty one. The path is always there.
-#[derive(Clone, Copy, Debug, PartialEq, Eq)]
+#[derive(Clone, Copy)]
 pub struct Parts {
     /// Without its `:`.
     pub scheme: Option<(usize, usize)>,

@@ -1,4 +1,4 @@
-ghost use Rattle.std.specs.Prelude.{◌≡◌, ◌++◌, ◌+◌, ◌≤◌, ◌↔◌, ℕ, List, codes, length, take, OnOk, IfOk, IsNone, IsSome, IsTrue};
+ghost use Rattle.std.specs.Prelude.{◌≡◌, [], ◌++◌, ◌+◌, ◌≤◌, ◌↔◌, ℕ, List, codes, length, take, OnOk, IfOk, IsNone, IsSome, IsTrue, is_some, if◌then◌else◌};
 ghost use Rattle.iri_resolve.specs.Components.{scheme_of, parts_of, part_at, components, AreWithin, IsWithin};
 ghost use Rattle.iri_resolve.specs.Dots.{without_dots};
 ghost use Rattle.iri_resolve.specs.Target.{directory, merged, marked, scheme_text, transformed, resolved};
@@ -12,7 +12,7 @@ use memchr::memrchr;
 use std::alloc::{AllocError, Global};
 
 /// Why a reference isn't resolved.
-#[derive(Clone, Copy, Debug, PartialEq, Eq)]
+#[derive(Clone, Copy)]
 pub enum IriFault {
     /// The base has no scheme.
     NotAbsoluteBase,
@@ -63,7 +63,7 @@ fn names_itself(reference: &[u8], to: Parts) -> bool
     to.scheme.is_some() && is_undotted(path_in(reference, to))
 }
 
-/// The text of the target. The branches are those of section 5.2.2, and each writes its components as section 5.3 has them.
+/// The text of the target.
 fn compose(alloc: Global, base: &[u8], reference: &[u8], to: Parts) -> Result<Vec<u8>, AllocError>
     requires parts { to ≡ parts_of reference.now }
     requires within { AreWithin reference.now to }
@@ -71,20 +71,53 @@ fn compose(alloc: Global, base: &[u8], reference: &[u8], to: Parts) -> Result<Ve
 {
     let most = base.len().saturating_add(reference.len()).saturating_add(1);
     let mut target = Vec::with_capacity(alloc, most)?;
-    if to.scheme.is_some() {
-        push_scheme(&mut target, reference, to.scheme)?;
-        push_named(&mut target, reference, to)?;
-    } else {
-        let from = split(base);
-        push_scheme(&mut target, base, from.scheme)?;
-        if to.authority.is_some() {
-            push_named(&mut target, reference, to)?;
-        } else {
-            push_local(alloc, &mut target, base, from, reference, to)?;
-        }
-    }
-    push_part(&mut target, b"#", reference, to.fragment)?;
+    push_target(alloc, &mut target, base, reference, to)?;
     Ok(target)
+}
+
+/// Writes the target. The branches are those of section 5.2.2, and each writes its components as section 5.3 has them.
+fn push_target(
+    alloc: Global,
+    target: &mut Vec<u8>,
+    base: &[u8],
+    reference: &[u8],
+    to: Parts,
+) -> Result<(), AllocError>
+    requires empty { target.old.items ≡ [] }
+    requires parts { to ≡ parts_of reference.now }
+    requires within { AreWithin reference.now to }
+    ensures { OnOk result (target.new.items ≡ resolved base.now reference.now) }
+{
+    if to.scheme.is_some() {
+        push_scheme(target, reference, to.scheme)?;
+        push_named(target, reference, to)?;
+    } else {
+        push_relative(alloc, target, base, reference, to)?;
+    }
+    push_part(target, b"#", reference, to.fragment)
+}
+
+/// Adds what stands before the fragment of the target, of a reference that has no scheme.
+fn push_relative(
+    alloc: Global,
+    target: &mut Vec<u8>,
+    base: &[u8],
+    reference: &[u8],
+    to: Parts,
+) -> Result<(), AllocError>
+    requires parts { to ≡ parts_of reference.now }
+    requires within { AreWithin reference.now to }
+    requires no_scheme { IsNone to.scheme }
+    ensures { let whole = transformed (components base.now) (components reference.now) in OnOk result (target.new.items
+        ≡ target.old.items ++ scheme_text whole.scheme ++ marked (codes "//") whole.authority ++ whole.path ++ marked (codes "?") whole.query) }
+{
+    let from = split(base);
+    push_scheme(target, base, from.scheme)?;
+    if to.authority.is_some() {
+        push_named(target, reference, to)
+    } else {
+        push_local(alloc, target, base, from, reference, to)
+    }
 }
 
 /// Adds authority, path and query of a reference that has a scheme or an authority.
@@ -120,36 +153,74 @@ fn push_local(
     let path = path_in(reference, to);
     push_part(target, b"//", base, from.authority)?;
     if path.is_empty() {
-        target.extend_from_slice(path_in(base, from))?;
-        if to.query.is_some() {
-            return push_part(target, b"?", reference, to.query);
-        }
-        return push_part(target, b"?", base, from.query);
+        return push_base_path(target, base, from, reference, to.query);
     }
     if path.starts_with(b"/") {
         push_without_dots(target, path)?;
     } else {
-        push_without_dots(target, &merge(alloc, base, from, path)?)?;
+        push_merged(alloc, target, base, from, path)?;
     }
     push_part(target, b"?", reference, to.query)
 }
 
-/// A relative path after the directory of the base: section 5.2.3.
-fn merge(alloc: Global, base: &[u8], from: Parts, path: &[u8]) -> Result<Vec<u8>, AllocError>
+/// Adds the path of the base, and a query: the reference's, if it is there, else that of the base.
+fn push_base_path(
+    target: &mut Vec<u8>,
+    base: &[u8],
+    from: Parts,
+    reference: &[u8],
+    query: Option<(usize, usize)>,
+) -> Result<(), AllocError>
+    requires from { from ≡ parts_of base.now }
+    requires from_within { AreWithin base.now from }
+    requires within { IsWithin reference.now query }
+    ensures { let of_base = components base.now in OnOk result (target.new.items ≡ target.old.items ++ of_base.path
+        ++ marked (codes "?") (if is_some query then part_at reference.now query else of_base.query)) }
+{
+    target.extend_from_slice(path_in(base, from))?;
+    if query.is_some() {
+        push_part(target, b"?", reference, query)
+    } else {
+        push_part(target, b"?", base, from.query)
+    }
+}
+
+/// Adds a relative path, merged with that of the base and without its dot segments.
+fn push_merged(
+    alloc: Global,
+    target: &mut Vec<u8>,
+    base: &[u8],
+    from: Parts,
+    path: &[u8],
+) -> Result<(), AllocError>
     requires from { from ≡ parts_of base.now }
     requires within { AreWithin base.now from }
-    ensures { IfOk result (λ whole. whole.items ≡ merged (components base.now) path.now) }
+    ensures { OnOk result (target.new.items ≡ target.old.items ++ without_dots (merged (components base.now) path.now)) }
+{
+    let most = path_in(base, from)
+        .len()
+        .saturating_add(path.len())
+        .saturating_add(1);
+    let mut whole = Vec::with_capacity(alloc, most)?;
+    merge(&mut whole, base, from, path)?;
+    push_without_dots(target, &whole)
+}
+
+/// Writes a relative path after the directory of the base: section 5.2.3.
+fn merge(whole: &mut Vec<u8>, base: &[u8], from: Parts, path: &[u8]) -> Result<(), AllocError>
+    requires empty { whole.old.items ≡ [] }
+    requires from { from ≡ parts_of base.now }
+    requires within { AreWithin base.now from }
+    ensures { OnOk result (whole.new.items ≡ merged (components base.now) path.now) }
 {
     let base_path = path_in(base, from);
-    let most = base_path.len().saturating_add(path.len()).saturating_add(1);
-    let mut whole = Vec::with_capacity(alloc, most)?;
     if from.authority.is_some() && base_path.is_empty() {
         whole.push(b'/')?;
     } else {
         whole.extend_from_slice(&base_path[..directory_len(base_path)])?;
     }
     whole.extend_from_slice(path)?;
-    Ok(whole)
+    Ok(())
 }
 
 /// Adds a scheme and its `:`, if it is there.

@@ -1,4 +1,4 @@
-ghost use Rattle.std.specs.Prelude.{◌≡◌, ◌≤◌, length, count_by, map, position, slice_get, is_none, IfOk, OnOk, nat_lt, not, ◌&&◌};
+ghost use Rattle.std.specs.Prelude.{◌≡◌, ◌≤◌, ◌++◌, length, count_by, map, position, slice_get, is_none, IfOk, OnOk, nat_lt, not, ◌&&◌};
 ghost use Rattle.std.specs.List.{list_any};
 ghost use Rattle.std.specs.Option.{option_copied, option_and_then};
 ghost use Rattle.plugin_decl.specs.Declaration.{ports_in_rows, indexes_of, is_index, ports_of};
@@ -7,7 +7,7 @@ ghost use Rattle.plugin_decl.specs.Rules.{AreKeptBelow};
 ghost use Rattle.plugin_decl.specs.Checks.{AreIndexes, Checked, IsFirstPlace};
 
 use crate::declaration::DeclFault;
-use crate::objects::{copy_of, objects};
+use crate::objects::{Found, copy_of, objects};
 use crate::plugin::Plugin;
 use crate::port::index;
 use crate::vocabulary::Word;
@@ -60,9 +60,7 @@ impl<'a> Plugin<'a> {
         ensures { IfOk result (λ ports. ports ≡ ports_in_rows self.now.store.now self.now.term.now) }
     {
         let mut ports = Items::new(alloc);
-        for port in objects(self.store, self.term, Word::Lv2Port) {
-            ports.push(copy_of(port)?)?;
-        }
+        push_copies(objects(self.store, self.term, Word::Lv2Port), &mut ports)?;
         Ok(ports)
     }
 
@@ -121,6 +119,16 @@ impl<'a> Plugin<'a> {
         }
         Ok(ordered)
     }
+}
+
+/// Adds copies of these objects.
+fn push_copies(found: Found<'_>, terms: &mut Items<Term>) -> Result<(), NoMemory>
+    ensures { OnOk result (terms.new ≡ terms.old ++ found.entry) }
+{
+    for term in found {
+        terms.push(copy_of(term)?)?;
+    }
+    Ok(())
 }
 
 /// The index of each port, where it has one.

@@ -1,10 +1,12 @@
-ghost use Rattle.std.specs.Prelude.{◌≡◌, ◌≤◌, ◌⊎◌, ℕ, List, length, map, IfOk, IfErr, OnOk};
+ghost use Rattle.std.specs.Prelude.{◌≡◌, ◌≤◌, ◌⊎◌, ◌++◌, ℕ, List, length, map, IfOk, IfErr, OnOk};
+ghost use Rattle.std.specs.List.{filter_map};
 ghost use Rattle.triple_store.specs.declared.term.Term.{Term};
 ghost use Rattle.triple_store.specs.declared.term.Term.TheVariants.{Iri};
 ghost use Rattle.triple_store.specs.declared.term.Triple.{Triple};
 ghost use Rattle.plugin_decl.specs.declared.declaration.DeclFault.{DeclFault};
 ghost use Rattle.plugin_decl.specs.Declaration.{stated_version, version, extends, has_feature, is_safe, iris_of, ports_of, declared_ports, declaration_of};
 ghost use Rattle.plugin_decl.specs.Ports.{port_of};
+ghost use Rattle.plugin_decl.specs.Values.{iri_in};
 ghost use Rattle.plugin_decl.specs.Rules.{AreKeptBelow, AreAllKept, IsFirstBroken, IsCause};
 ghost use Rattle.plugin_decl.specs.Checks.{Checked};
 ghost use Rattle.plugin_decl.specs.Answer.{IsDeclOrNoMemory, IsFaultOrNoMemory};
@@ -12,7 +14,7 @@ ghost use Rattle.plugin_decl.specs.Valid.{IsValid};
 
 use crate::declaration::{Decl, DeclFault, Port};
 use crate::indexes::MOST_PORTS;
-use crate::objects::{first, has, objects};
+use crate::objects::{Found, first, has, objects};
 use crate::plugin::Plugin;
 use crate::port::{copy, port_of};
 use crate::port_rules::PortRule;
@@ -59,6 +61,18 @@ fn iri_of(uri: &Text) -> Result<Term, NoMemory>
     ensures { IfOk result (λ term. term ≡ Iri uri.now) }
 {
     Ok(Term::Iri(uri.clone()?))
+}
+
+/// Adds the IRIs among these objects.
+fn push_iris(found: Found<'_>, iris: &mut Items<Text>) -> Result<(), NoMemory>
+    ensures { OnOk result (iris.new ≡ iris.old ++ filter_map iri_in found.entry) }
+{
+    for object in found {
+        if let Some(iri) = iri(object) {
+            iris.push(iri.clone()?)?;
+        }
+    }
+    Ok(())
 }
 
 /// What is declared of each of some ports.
@@ -178,11 +192,7 @@ impl<'a> Plugin<'a> {
         ensures { IfOk result (λ iris. iris ≡ iris_of self.now.store.now self.now.term.now word) }
     {
         let mut iris = Items::new(alloc);
-        for object in objects(self.store, self.term, word) {
-            if let Some(iri) = iri(object) {
-                iris.push(iri.clone()?)?;
-            }
-        }
+        push_iris(objects(self.store, self.term, word), &mut iris)?;
         Ok(iris)
     }
 }

@@ -3,7 +3,7 @@ ghost use Rattle.step_law.specs.declared.actor.Actor.TheVariants.{Audio};
 ghost use Rattle.step_law.specs.declared.call.Call.TheVariants.{Run as RunCall};
 ghost use Rattle.step_law.specs.declared.ring.Ring.TheVariants.{ControlToAudio};
 ghost use Rattle.step_record.specs.Entry.{block_of, look_of, done_of};
-ghost use Rattle.session_script.specs.FirstPath.Valid.{IsValid};
+ghost use Rattle.session_script.specs.Playable.{IsPlayable};
 ghost use Rattle.replay_core.specs.Each.{each};
 ghost use Rattle.replay_core.specs.PlainRecord.{called, cycle};
 ghost use Rattle.replay_core.specs.Play.{meaning_of, silent_signals};
@@ -19,7 +19,7 @@ use step_record::{Actor, Entry, Ring};
 impl<C: Codes> Run<C> {
     /// Plays a block: audio runs each instance, in order, and what is heard is kept.
     pub fn play(&mut self, session: &Session, block: u32) -> Result<(), NoMemory>
-        requires valid { IsValid session.now }
+        requires playable { IsPlayable session.now }
         requires running { IsRunning C.Front.uri_of session.now self.old }
         requires made { length self.old.fronts.items ≡ length session.now.insts }
         ensures plays { OnOk result
@@ -33,7 +33,7 @@ impl<C: Codes> Run<C> {
     }
 
     fn begin_block(&mut self, session: &Session, block: u32) -> Result<(), NoMemory>
-        requires valid { IsValid session.now }
+        requires playable { IsPlayable session.now }
         requires running { IsRunning C.Front.uri_of session.now self.old }
         requires made { length self.old.fronts.items ≡ length session.now.insts }
         ensures plays { OnOk result
@@ -50,7 +50,7 @@ impl<C: Codes> Run<C> {
     }
 
     fn run_all(&mut self, session: &Session) -> Result<(), NoMemory>
-        requires valid { IsValid session.now }
+        requires playable { IsPlayable session.now }
         requires running { IsRunning C.Front.uri_of session.now self.old }
         requires made { length self.old.fronts.items ≡ length session.now.insts }
         requires silent { self.old.desk.outs.blocks ≡ silent_signals session.now }
@@ -66,7 +66,7 @@ impl<C: Codes> Run<C> {
     }
 
     fn end_block(&mut self, session: &Session, block: u32) -> Result<(), NoMemory>
-        requires valid { IsValid session.now }
+        requires playable { IsPlayable session.now }
         requires running { IsRunning C.Front.uri_of session.now self.old }
         requires made { length self.old.fronts.items ≡ length session.now.insts }
         ensures plays { OnOk result

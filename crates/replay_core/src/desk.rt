@@ -1,5 +1,5 @@
 ghost use Rattle.std.specs.Prelude.{◌≡◌, ◌<◌, length, slice_set, IfOk};
-ghost use Rattle.session_script.specs.FirstPath.Valid.{IsValid};
+ghost use Rattle.session_script.specs.Playable.{IsPlayable};
 ghost use Rattle.plug_api.specs.Outputs.{silenced, block_at};
 ghost use Rattle.plug_api.specs.Sound.{silence};
 ghost use Rattle.replay_core.specs.Signals.{inputs_at, uri_at};
@@ -25,7 +25,7 @@ pub(crate) struct Desk {
 impl Desk {
     /// The desk of a session, silent.
     pub fn new(alloc: Global, session: &Session) -> Result<Self, NoMemory>
-        requires { IsValid session.now }
+        requires { IsPlayable session.now }
         ensures ready { IfOk result (IsReady session.now) }
         ensures silent { IfOk result (λ desk. desk.outs.blocks ≡ silent_signals session.now) }
     {
@@ -61,7 +61,7 @@ impl Desk {
 
     /// Runs the front of an instance on the signals of the block so far, and keeps the signal that it gives.
     pub fn run<F: Front>(&mut self, session: &Session, inst: u32, front: &mut F)
-        requires valid { IsValid session.now }
+        requires playable { IsPlayable session.now }
         requires ready { IsReady session.now self.old }
         requires there { inst < length session.now.insts }
         requires uri { F.uri_of front.old ≡ uri_at session.now inst }

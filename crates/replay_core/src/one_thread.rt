@@ -2,7 +2,7 @@ ghost use Rattle.std.specs.Prelude.{◌≡◌, ◌<◌, ◌≤◌, ◌^◌, ◌*
 ghost use Rattle.step_law.specs.declared.actor.Actor.TheVariants.{Control};
 ghost use Rattle.step_law.specs.declared.call.Call.TheVariants.{Cleanup};
 ghost use Rattle.step_record.specs.Entry.{last};
-ghost use Rattle.session_script.specs.FirstPath.Valid.{IsValid};
+ghost use Rattle.session_script.specs.Playable.{IsPlayable};
 ghost use Rattle.replay_core.specs.Each.{each};
 ghost use Rattle.replay_core.specs.PlainRecord.{called, before_cleanup};
 ghost use Rattle.replay_core.specs.Play.{meaning_of};
@@ -22,7 +22,7 @@ use std::alloc::Global;
 /// Runs a session on one thread, and gives the record of what was done, what is heard in the play of that record, and
 /// what the record counts.
 pub fn render<C: Codes>(alloc: Global, session: &Session, codes: &C) -> Result<Outcome, NoMemory>
-    requires { IsValid session.now }
+    requires { IsPlayable session.now }
     ensures { IfOk result
         (IsOutcome (meaning_of C.make_of C.Front.activate_of C.Front.run_of C.Front.deactivate_of) session.now) }
 {
@@ -34,7 +34,7 @@ pub fn render<C: Codes>(alloc: Global, session: &Session, codes: &C) -> Result<O
 impl<C: Codes> Run<C> {
     /// All that is done before the fronts are let go.
     fn play_whole(&mut self, alloc: Global, session: &Session, codes: &C) -> Result<(), NoMemory>
-        requires valid { IsValid session.now }
+        requires playable { IsPlayable session.now }
         requires running { IsRunning C.Front.uri_of session.now self.old }
         requires fresh { self.old.fronts.items ≡ [] }
         ensures plays { OnOk result

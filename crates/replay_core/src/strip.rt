@@ -1,6 +1,6 @@
 ghost use Rattle.std.specs.Prelude.{◌≡◌, ◌<◌, length, fold, filter, IfOk, ◌==◌};
 ghost use Rattle.session_script.specs.declared.session.SetLine.{SetLine};
-ghost use Rattle.session_script.specs.FirstPath.Valid.{IsValid};
+ghost use Rattle.session_script.specs.Playable.{IsPlayable};
 ghost use Rattle.replay_core.specs.Signals.{inputs_at, uri_at, value_of, ports_at};
 ghost use Rattle.replay_core.specs.Desk.{IsStrip};
 ghost use Rattle.plug_api.specs.Outputs.{block_at, with_block};
@@ -25,7 +25,7 @@ pub(crate) struct Strip {
 impl Strip {
     /// The strip of an instance, with its control input set.
     pub fn new(alloc: Global, session: &Session, inst: u32) -> Result<Self, NoMemory>
-        requires valid { IsValid session.now }
+        requires playable { IsPlayable session.now }
         requires there { inst < length session.now.insts }
         ensures { IfOk result (IsStrip session.now inst) }
     {
@@ -37,7 +37,7 @@ impl Strip {
 
     /// Puts the mix of the instance's cables at its audio input, if it has one.
     pub fn fill(&mut self, session: &Session, inst: u32, mixer: &mut Mixer, outs: &Outs)
-        requires valid { IsValid session.now }
+        requires playable { IsPlayable session.now }
         requires strip { IsStrip session.now inst self.old }
         requires room { length mixer.old ≡ session.now.block }
         requires places { length outs.now.blocks ≡ length session.now.insts }

@@ -1,5 +1,5 @@
 -- Files that are read one after another, and what is said of a vault from its first state on.
-use Rattle.std.proofs.Common.{◌≡◌, ℕ, ◌+◌, ◌<◌, ◌≤◌, List, [], ◌∷◌, ◌++◌, length, take, drop, get_or, Result, Ok, Err, IfErr, OnOk, refl, ap, sym, subst, ◌∙◌, arith, add-one, inl, inr}
+use Rattle.std.proofs.Common.{◌≡◌, ℕ, ◌+◌, ◌<◌, ◌≤◌, List, [], ◌∷◌, ◌++◌, length, take, drop, get_or, ◌⊎◌, Result, Ok, Err, IfErr, OnOk, refl, ap, sym, subst, ◌∙◌, arith, add-one, inl, inr}
 use Rattle.std.proofs.lemmas.List.{take_more, take-append-drop}
 use Rattle.std.proofs.Math.Seq.{drop-cons}
 use Rattle.lv_outside.specs.Count.{Rose}
@@ -101,24 +101,18 @@ stops v m v' at names k name first before fault h within e all r = record {
 }
 
 -- the whole of a bundle: its manifest, then what that names
-first : (v v' : VaultState) (path : List ℕ) (number : ℕ) (fault : LoadFault) → IsRefused v v' (place number path) manifest [] fault → IsUnloaded v v' path number fault
-first v v' path number (Missing p) r = inl r
-first v v' path number (ReadFailed p) r = inl r
-first v v' path number (TooLong p) r = inl r
-first v v' path number (Turtle p f) r = inl r
-first v v' path number NoMemory r = tt
+pub unloaded : (v v' : VaultState) (path : List ℕ) (number : ℕ) (fault : LoadFault)
+    → IsRefused v v' (place number path) manifest [] fault ⊎ StopsBehind v v' (place number path) fault → IsUnloaded v v' path number fault
+unloaded v v' path number (Missing p) h = h
+unloaded v v' path number (ReadFailed p) h = h
+unloaded v v' path number (TooLong p) h = h
+unloaded v v' path number (Turtle p f) h = h
+unloaded v v' path number NoMemory h = tt
 
 pub unloaded-first : (v v' : VaultState) (path : List ℕ) (number : ℕ) (none : List Triple) (fault : LoadFault) → none ≡ []
     → IsRefused v v' (place number path) manifest none fault → IsUnloaded v v' path number fault
 unloaded-first v v' path number none fault e r =
-    first v v' path number fault (subst (λ (before : List Triple). IsRefused v v' (place number path) manifest before fault) e r)
-
-behind : (v v' : VaultState) (path : List ℕ) (number : ℕ) (fault : LoadFault) → StopsBehind v v' (place number path) fault → IsUnloaded v v' path number fault
-behind v v' path number (Missing p) s = inr s
-behind v v' path number (ReadFailed p) s = inr s
-behind v v' path number (TooLong p) s = inr s
-behind v v' path number (Turtle p f) s = inr s
-behind v v' path number NoMemory s = tt
+    unloaded v v' path number fault (inl (subst (λ (before : List Triple). IsRefused v v' (place number path) manifest before fault) e r))
 
 stops-earlier : (v m v' : VaultState) (at : Place) (names : List (List ℕ)) (first : List Triple) (fault : LoadFault) → IsLater v m
     → StopsAt m v' at names first fault → StopsAt v v' at names first fault
@@ -136,12 +130,12 @@ unloaded-behind : (v m v' : VaultState) (path : List ℕ) (number : ℕ) (names 
     → Adds v (place number path) manifest [] first → names ≡ files_named number first → StopsAt m v' (place number path) names first fault
     → IsUnloaded v v' path number fault
 unloaded-behind v m v' path number names first fault h named e s =
-    behind v v' path number fault
-    (record {
+    unloaded v v' path number fault
+    (inr (record {
       first = first;
       named = named;
       stops = subst (λ ns. StopsAt v v' (place number path) ns first fault) e (stops-earlier v m v' (place number path) names first fault h s);
-    })
+    }))
 
 has-rows : (v m : VaultState) (path : List ℕ) (number : ℕ) (names : List (List ℕ)) (first rows : List Triple) → IsLater v m
     → Adds v (place number path) manifest [] first → names ≡ files_named number first → AddAll m (place number path) names first rows

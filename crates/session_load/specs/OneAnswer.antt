@@ -21,3 +21,7 @@ IsLoadedAs v path number (Err fault) = IsOfFiles fault × ((after : VaultState) 
 abbrev pub HasOneAnswer : Type 0
 HasOneAnswer = (v : VaultState) (path : List ℕ) (number : ℕ) (a b : Result (List Triple) LoadFault) → IsTrue v.tells
     → IsLoadedAs v path number a → IsLoadedAs v path number b → a ≡ b
+
+-- and at least one
+abbrev pub HasSomeAnswer : Type 0
+HasSomeAnswer = (v : VaultState) (path : List ℕ) (number : ℕ) → IsTrue v.tells → (a : Result (List Triple) LoadFault) × IsLoadedAs v path number a

@@ -2,8 +2,9 @@ ghost use Rattle.std.specs.Prelude.{◌≡◌, ◌≤◌, ℕ, List, [], true, A
 ghost use Rattle.lv_outside.specs.World.{vault_at, LeavesFiles};
 ghost use Rattle.triple_store.specs.declared.term.Triple.{Triple};
 ghost use Rattle.turtle_document.specs.Answer.Outcome.{document};
+ghost use Rattle.turtle_document.specs.Numbers.{HaveFewNumbers};
 ghost use Rattle.session_load.specs.Names.{manifest, path_of, file_iri, is_inside, files_named};
-ghost use Rattle.session_load.specs.OneAnswer.{HasOneAnswer};
+ghost use Rattle.session_load.specs.OneAnswer.{HasOneAnswer, HasSomeAnswer};
 ghost use Rattle.session_load.specs.Bundle.{IsLater, Adds, AddAll, Reads, cause, IsMisread, IsRefused, StopsAt, place, HasRows, IsBundle, IsUnloaded};
 
 use crate::fault::LoadFault;
@@ -70,6 +71,11 @@ pub fn one_answer()
     ensures { HasOneAnswer }
 {}
 
+/// A law, and no step of a program: the files of a known vault give a bundle a list of rows or a first fault.
+pub fn some_answer()
+    ensures { HasSomeAnswer }
+{}
+
 /// The folder of a bundle.
 #[derive(Clone, Copy)]
 struct Folder<'a> {
@@ -98,6 +104,7 @@ impl<'a> Folder<'a> {
     }
 
     fn read_manifest<V: Vault>(&self, vault: &mut V, store: &mut Store) -> Result<(), LoadFault>
+        requires { HaveFewNumbers store.old }
         ensures ok { OnOk result (Adds (vault_at V.tells V.file V.faults V.absences V.longs vault.old)
             (place self.now.number self.now.path.now) manifest store.old store.new) }
         ensures err { IfErr result (IsRefused (vault_at V.tells V.file V.faults V.absences V.longs vault.old)
@@ -105,6 +112,7 @@ impl<'a> Folder<'a> {
             (place self.now.number self.now.path.now) manifest store.old) }
         ensures later { IsLater (vault_at V.tells V.file V.faults V.absences V.longs vault.old)
             (vault_at V.tells V.file V.faults V.absences V.longs vault.new) }
+        ensures few { HaveFewNumbers store.new }
     {
         let manifest = FileName::manifest(self.alloc)?;
         self.read_file(&manifest, vault, store)
@@ -117,6 +125,7 @@ impl<'a> Folder<'a> {
         vault: &mut V,
         store: &mut Store,
     ) -> Result<(), LoadFault>
+        requires { HaveFewNumbers store.old }
         ensures ok { OnOk result (AddAll (vault_at V.tells V.file V.faults V.absences V.longs vault.old)
             (place self.now.number self.now.path.now) names.now store.old store.new) }
         ensures err { IfErr result (StopsAt (vault_at V.tells V.file V.faults V.absences V.longs vault.old)
@@ -124,6 +133,7 @@ impl<'a> Folder<'a> {
             (place self.now.number self.now.path.now) names.now store.old) }
         ensures later { IsLater (vault_at V.tells V.file V.faults V.absences V.longs vault.old)
             (vault_at V.tells V.file V.faults V.absences V.longs vault.new) }
+        ensures few { HaveFewNumbers store.new }
     {
         for name in names {
             self.read_file(name, vault, store)?;
@@ -138,6 +148,7 @@ impl<'a> Folder<'a> {
         vault: &mut V,
         store: &mut Store,
     ) -> Result<(), LoadFault>
+        requires { HaveFewNumbers store.old }
         ensures ok { OnOk result (Adds (vault_at V.tells V.file V.faults V.absences V.longs vault.old)
             (place self.now.number self.now.path.now) name.now store.old store.new) }
         ensures err { IfErr result (IsRefused (vault_at V.tells V.file V.faults V.absences V.longs vault.old)
@@ -145,6 +156,7 @@ impl<'a> Folder<'a> {
             (place self.now.number self.now.path.now) name.now store.old) }
         ensures later { IsLater (vault_at V.tells V.file V.faults V.absences V.longs vault.old)
             (vault_at V.tells V.file V.faults V.absences V.longs vault.new) }
+        ensures few { HaveFewNumbers store.new }
     {
         let path = self.path_of(name)?;
         let mut bytes = Bytes::new(self.alloc);
@@ -165,8 +177,10 @@ impl<'a> Folder<'a> {
         bytes: &[u8],
         store: &mut Store,
     ) -> Result<(), LoadFault>
+        requires { HaveFewNumbers store.old }
         ensures ok { OnOk result (Reads (place self.now.number self.now.path.now) name.now store.old bytes.now (document store.new)) }
         ensures err { IfErr result (IsMisread path (Reads (place self.now.number self.now.path.now) name.now store.old bytes.now)) }
+        ensures few { HaveFewNumbers store.new }
     {
         let base = self.iri_of(name)?;
         match read(self.alloc, &base, bytes, store) {

@@ -6,5 +6,5 @@ mod fault;
 mod file_name;
 mod named_files;
 
-pub use bundle_files::{MOST_FILE_BYTES, bundle, one_answer, stays_inside};
+pub use bundle_files::{MOST_FILE_BYTES, bundle, one_answer, some_answer, stays_inside};
 pub use fault::LoadFault;

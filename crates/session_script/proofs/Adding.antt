@@ -16,7 +16,7 @@ use Rattle.session_script.specs.declared.keyword.Section.TheVariants.{Start, Ins
 use Rattle.session_script.specs.Line.{Line}
 use Rattle.session_script.specs.Line.Line.{inst, set, cable, out, at}
 use Rattle.session_script.specs.Sections.{order, section_of}
-use Rattle.session_script.specs.Draft.{later, reached, given, rate_in, block_in, blocks_in, workers_in, cells_in, reserve_in, numbers_of, bundle_in, inst_in, set_in, cable_in, out_in, action_in, numbered, insts_of, draft_of}
+use Rattle.session_script.specs.Draft.{latest, reached, given, rate_in, block_in, blocks_in, workers_in, cells_in, reserve_in, numbers_of, bundle_in, inst_in, set_in, cable_in, out_in, action_in, numbered, insts_of, draft_of}
 use Rattle.session_script.specs.Rules.{is_late}
 use Rattle.session_script.specs.Step.{added, or_given, moved, with_number, with_line}
 
@@ -52,30 +52,30 @@ given_by (x ∷ xs) (Some n) = refl
 given_more : (f : Line → Option ℕ) (ls : List Line) (line : Line) → given f (ls ++ line ∷ []) ≡ or_given (given f ls) (f line)
 given_more f ls line = ap (λ xs. slice_get xs 0) (gathered f ls line) ∙ given_by (filter_map f ls) (f line)
 
-moved_by : (xs : List Section) (o : Option Section) → fold later Start (added xs o) ≡ moved (fold later Start xs) o
+moved_by : (xs : List Section) (o : Option Section) → fold latest Start (added xs o) ≡ moved (fold latest Start xs) o
 moved_by xs None = refl
-moved_by xs (Some section) = fold_push later Start xs section
+moved_by xs (Some section) = fold_push latest Start xs section
 
 reached_more : (ls : List Line) (line : Line) → reached (ls ++ line ∷ []) ≡ moved (reached ls) (section_of line)
-reached_more ls line = ap (fold later Start) (gathered section_of ls line) ∙ moved_by (filter_map section_of ls) (section_of line)
+reached_more ls line = ap (fold latest Start) (gathered section_of ls line) ∙ moved_by (filter_map section_of ls) (section_of line)
 
 -- ---- sections
 
 abbrev rank : Option Section → ℕ
 rank o = option_map_or order o 0
 
-later-bounds : (a b : Section) → (order a ≤ order (later a b)) × (order b ≤ order (later a b))
-later-bounds a b = ⊎_elim
+latest-bounds : (a b : Section) → (order a ≤ order (latest a b)) × (order b ≤ order (latest a b))
+latest-bounds a b = ⊎_elim
     (λ t. let e = ap (λ v. order (cond v b a)) t.0 in (omega (arith, e, t.1), omega (arith, e)))
     (λ t. let e = ap (λ v. order (cond v b a)) t.0 in (omega (arith, e), omega (arith, e, t.1)))
     (leb_tells (order a) (order b))
 
 -- no section stands behind the latest one
-sections_within : (from : Section) (ss : List Section) (k : ℕ) → order (fold later from ss) ≤ k → (order from ≤ k) × All (λ section. order section ≤ k) ss
+sections_within : (from : Section) (ss : List Section) (k : ℕ) → order (fold latest from ss) ≤ k → (order from ≤ k) × All (λ section. order section ≤ k) ss
 sections_within from [] k h = (h, All-nil (λ section. order section ≤ k))
 sections_within from (section ∷ ss) k h =
-    let rest = sections_within (later from section) ss k h in
-    let bounds = later-bounds from section in
+    let rest = sections_within (latest from section) ss k h in
+    let bounds = latest-bounds from section in
     (omega (arith, rest.0, bounds.0), All-cons (λ s. order s ≤ k) section ss (omega (arith, rest.0, bounds.1)) rest.1)
 
 lines_within : (ls : List Line) (k : ℕ) → All (λ section. order section ≤ k) (filter_map section_of ls) → All (λ line. rank (section_of line) ≤ k) ls

@@ -22,7 +22,8 @@ use Rattle.session_script.specs.Limits.{least, most, workers_or_default, blocks_
 use Rattle.session_script.specs.Rules.{broken_rule, is_limited, decimals_in, integers_in, block_reached}
 use Rattle.session_script.specs.Step.{with_number, with_setting}
 use Rattle.session_script.specs.Judged.{IsActWell, IsWorkerWell}
-use Rattle.session_script.proofs.Finds.{not_out_of_range, not_same, not_out_of_blocks, not_malformed, both, not-false}
+use Rattle.session_script.proofs.Finds.{not_out_of_range, not_same, not_out_of_blocks, not_malformed}
+use Rattle.session_script.proofs.Booleans.{both, not-false}
 
 -- ---- tests
 

@@ -1,5 +1,5 @@
 -- How the words of a line follow from its bytes.
-use Rattle.std.proofs.Common.{◌≡◌, ℕ, suc, ◌+◌, ◌-◌, ◌<◌, ◌≤◌, Bool, true, false, not, cond, eqb, List, [], ◌∷◌, length, take, drop, get_or, refl, sym, ap, subst, Some, None, ◌∙◌, ⊎_elim, arith}
+use Rattle.std.proofs.Common.{◌≡◌, ℕ, suc, ◌+◌, ◌-◌, ◌<◌, ◌≤◌, Bool, true, false, not, cond, eqb, List, [], ◌∷◌, length, take, drop, get_or, sym, ap, subst, Some, None, ◌∙◌, ⊎_elim, arith}
 use Rattle.std.specs.List.{filter, slice_split, position, position_or_len, All}
 use Rattle.std.specs.Option.{unwrap_or}
 use Rattle.std.specs.Str.{IsCharBoundary}
@@ -11,17 +11,10 @@ use Rattle.std.proofs.lemmas.List.Splits.{slice_split-cons_yes, slice_split_firs
 use Rattle.std.proofs.lemmas.List.Sums.{prefix_len_passes, prefix_len_stops, prefix_len-le-length}
 use borrow.Author.Tests.{ne_eqb}
 use Rattle.session_script.specs.Words.{is_blank, is_word, words}
+use Rattle.session_script.proofs.Booleans.{not-true, not-false}
 
 low : (byte : ℕ) → is_blank byte ≡ true → byte < 128
 low byte h = grind (arith, nat_tests)
-
-not-true : (b : Bool) → not b ≡ true → b ≡ false
-not-true true h = sym h
-not-true false h = refl
-
-not-false : (b : Bool) → not b ≡ false → b ≡ true
-not-false true h = refl
-not-false false h = sym h
 
 -- a blank adds no word
 pub words-blank : (byte : ℕ) (line : List ℕ) → is_blank byte ≡ true → words (byte ∷ line) ≡ words line

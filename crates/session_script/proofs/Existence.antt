@@ -22,12 +22,16 @@ one_more : (ls : List Line) (n : ℕ) → n < length ls → AreWell ls n → (o 
 one_more ls n low well None here = inl (below_more (λ k. rule_at ls k ≡ None) n well here)
 one_more ls n low well (Some rule) here =
     let place : n ≡ n + 1 - 1 = omega arith in
-    inr (n + 1, rule, record {
-      counted = omega arith;
-      there = omega arith;
-      before = subst (AreWell ls) place well;
-      broken = subst (λ k. rule_at ls k ≡ Some rule) place here;
-    })
+    inr (
+      n + 1,
+      rule,
+      record {
+        counted = omega arith;
+        there = omega arith;
+        before = subst (AreWell ls) place well;
+        broken = subst (λ k. rule_at ls k ≡ Some rule) place here;
+      },
+    )
 
 -- the first n lines are well, or there is a first that isn't
 well_or_first : (ls : List Line) (n : ℕ) → n ≤ length ls → AreWell ls n ⊎ HasFirst ls
@@ -59,8 +63,12 @@ some_answer script = by_text (is_utf8 script) refl
   where
     by_text : (b : Bool) → is_utf8 script ≡ b → HasAnswer script
     by_text true e = text_answer script (IsUtf8-from_is_utf8 script e) (well_or_first (lines_of script) (length (lines_of script)) (omega arith))
-    by_text false e = inr (inl (bad_line script, Utf8, inl (record {
-      bad = λ utf8. absurd (false≢true (sym e ∙ is_utf8-from_IsUtf8 script utf8));
-      line = refl;
-      utf8 = refl;
-    })))
+    by_text false e = inr (inl (
+      bad_line script,
+      Utf8,
+      inl (record {
+        bad = λ utf8. absurd (false≢true (sym e ∙ is_utf8-from_IsUtf8 script utf8));
+        line = refl;
+        utf8 = refl;
+      }),
+    ))

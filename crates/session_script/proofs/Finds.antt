@@ -1,15 +1,11 @@
 -- Where nothing is found, nothing passes.
-use Rattle.std.proofs.Common.{◌≡◌, ℕ, zero, suc, ◌<◌, Bool, true, false, cond, not, Option, Some, None, List, [], ◌∷◌, length, get_or, refl, sym, arith}
-use Rattle.std.specs.Prelude.{◌&&◌}
+use Rattle.std.proofs.Common.{◌≡◌, ℕ, zero, suc, ◌<◌, Bool, true, false, cond, Option, Some, None, List, [], ◌∷◌, length, get_or, refl, arith}
 use Rattle.std.specs.List.{find}
-use Rattle.std.proofs.lemmas.Bool.{false≢true}
 use Rattle.session_script.specs.declared.draft.Draft.{Draft}
 use Rattle.session_script.specs.declared.fault.ScriptRule.TheVariants.{Head, Order, Range, Same, Unknown, Iri, Name, Block, Form}
 use Rattle.session_script.specs.Line.{Line}
 use Rattle.session_script.specs.Rules.{breaks, broken_rule, table}
-
-some-none : {X : Type 0} (x : X) → Some x ≡ None → ⊥
-some-none x e = cc
+use Rattle.session_script.proofs.Booleans.{some-none}
 
 past : {X : Type 0} (b : Bool) (x : X) (o : Option X) → cond b (Some x) o ≡ None → (b ≡ false) × (o ≡ None)
 past true x o e = absurd (some-none x e)
@@ -44,12 +40,3 @@ not_out_of_blocks d line h = find_none (λ rule. breaks rule d line) table Head 
 
 pub not_malformed : (d : Draft) (line : Line) → broken_rule d line ≡ None → breaks Form d line ≡ false
 not_malformed d line h = find_none (λ rule. breaks rule d line) table Head h 13 (omega arith)
-
--- the parts of tests
-pub both : (a b : Bool) → (a && b) ≡ true → (a ≡ true) × (b ≡ true)
-both true b h = (refl, h)
-both false b h = absurd (false≢true h)
-
-pub not-false : (b : Bool) → not b ≡ false → b ≡ true
-not-false true h = refl
-not-false false h = sym h

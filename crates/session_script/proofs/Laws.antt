@@ -1,5 +1,5 @@
 -- A script has one answer.
-use Rattle.std.proofs.Common.{◌≡◌, ℕ, ◌-◌, ◌≤◌, List, ◌⊎◌, Some, None, refl, sym, ap, ◌∙◌, ⊎_elim, inl, inr, arith, Result, Ok, Err}
+use Rattle.std.proofs.Common.{◌≡◌, ℕ, ◌-◌, ◌≤◌, List, ◌⊎◌, Some, refl, sym, ap, ◌∙◌, ⊎_elim, inl, inr, arith, Result, Ok, Err}
 use Rattle.std.specs.Prelude.{IsUtf8}
 use Rattle.std.proofs.lemmas.Bool.{cases_lt}
 use Rattle.session_script.specs.declared.session.Session.{Session}
@@ -11,9 +11,7 @@ use Rattle.session_script.specs.Answer.{ReadsText, IsFaultOrNoMemory}
 use Rattle.session_script.specs.Line.{Line, lines_of}
 use Rattle.session_script.specs.Limits.{passed}
 use Rattle.session_script.specs.Script.{AreWell, IsWhole, IsSessionOf, IsFirstIn, IsBlank, IsFirstBroken, IsPast, rule_at}
-
-some-none : {X : Type 0} (x : X) → Some x ≡ None → ⊥
-some-none x e = cc
+use Rattle.session_script.proofs.Booleans.{some-none}
 
 same_some : {X : Type 0} (x y : X) → Some x ≡ Some y → x ≡ y
 same_some x y e = cc

@@ -1,5 +1,6 @@
 pub mod Adding
 pub mod Blanks
+pub mod Booleans
 pub mod Bounds
 pub mod Cuts
 pub mod Existence

@@ -21,7 +21,7 @@ use Rattle.session_script.specs.Script.{IsSessionOf, session_of}
 use Rattle.session_script.specs.Stock.{IsStockUri, is_stock_uri, const_uri, amp_uri}
 use Rattle.session_script.specs.Valid.{IsValid}
 use Rattle.session_script.specs.Words.{value_of}
-use Rattle.session_script.proofs.Finds.{both, not-false}
+use Rattle.session_script.proofs.Booleans.{both, not-false}
 use Rattle.session_script.proofs.Segments.{lost}
 use Rattle.session_script.proofs.Validity.{valid, mapped_none}
 

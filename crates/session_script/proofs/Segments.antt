@@ -9,10 +9,7 @@ use Rattle.std.proofs.lemmas.List.Sums.{prefix_len_passes}
 use Rattle.std.proofs.lemmas.Bool.{ltb-false}
 use borrow.Author.Tests.{ltb-true}
 use Rattle.session_script.specs.Sorts.{is_slash, is_segment}
-
-not-true : (b : Bool) → not b ≡ true → b ≡ false
-not-true true h = sym h
-not-true false h = refl
+use Rattle.session_script.proofs.Booleans.{not-true}
 
 pub found : (n len k : ℕ) (b : Bool) → nat_lt n len ≡ b → cond b (Some n) None ≡ Some k → (n ≡ k) × (n < len)
 found n len k true e h = (cc, ltb-true n len e)

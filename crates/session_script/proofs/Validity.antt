@@ -36,7 +36,8 @@ use Rattle.session_script.specs.Answer.{ReadsText}
 use Rattle.session_script.specs.declared.fault.ScriptFault.{ScriptFault}
 use Rattle.session_script.proofs.Reading.{draft_of-more, none_bounded}
 use Rattle.session_script.proofs.Bounds.{bounds_more, worker_within, block_within}
-use Rattle.session_script.proofs.Finds.{find_none, not_misnamed, not_unknown, not_iri, both, not-false}
+use Rattle.session_script.proofs.Finds.{find_none, not_misnamed, not_unknown, not_iri}
+use Rattle.session_script.proofs.Booleans.{both, not-false}
 
 -- ---- what one line keeps
 

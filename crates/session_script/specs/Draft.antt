@@ -106,12 +106,12 @@ numbers_of ls = record {
   reserve = given reserve_in ls;
 }
 
-abbrev pub later : Section → Section → Section
-later a b = if nat_le (order a) (order b) then b else a
+abbrev pub latest : Section → Section → Section
+latest a b = if nat_le (order a) (order b) then b else a
 
 -- the latest section of these lines
 abbrev pub reached : List Line → Section
-reached ls = fold later Start (filter_map section_of ls)
+reached ls = fold latest Start (filter_map section_of ls)
 
 abbrev pub insts_of : List Line → List Inst
 insts_of ls = filter_map inst_in (numbered ls)

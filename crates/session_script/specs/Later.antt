@@ -12,11 +12,11 @@ use Rattle.session_script.specs.Places.{place}
 use Rattle.session_script.specs.Stock.{amp_uri, is_stock_uri, control_of}
 use Rattle.session_script.specs.Words.{value_of}
 
--- the frames of a block, and at most 1024 blocks
-abbrev pub is_kept : Setting → List ℕ → Bool
-is_kept Block number = true
-is_kept Blocks number = nat_le (value_of number) 1024
-is_kept _ number = false
+-- of the settings only the frames of a block, and up to 1024 blocks
+abbrev pub plays_setting : Setting → List ℕ → Bool
+plays_setting Block number = true
+plays_setting Blocks number = nat_le (value_of number) 1024
+plays_setting _ number = false
 
 -- the URI of instance k
 abbrev pub uri_at : List Inst → ℕ → List ℕ
@@ -38,7 +38,7 @@ leads_on insts source output target input = bytes_eq output (codes "out") && byt
 abbrev pub is_playable : List Inst → Line → Bool
 is_playable insts skipped = true
 is_playable insts header = true
-is_playable insts (setting kind number) = is_kept kind number
+is_playable insts (setting kind number) = plays_setting kind number
 is_playable insts (inst name uri worker) = is_none worker && is_stock_uri uri
 is_playable insts (set name symbol decimal) = is_control insts name symbol
 is_playable insts (cable source output target input delayed) = is_none delayed && leads_on insts source output target input

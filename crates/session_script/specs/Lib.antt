@@ -8,10 +8,10 @@ pub mod Places
 pub mod Playable
 pub mod Roster
 pub mod Rules
+pub mod Said
 pub mod Script
 pub mod Sections
 pub mod Sorts
-pub mod Statement
 pub mod Step
 pub mod Stock
 pub mod Valid

@@ -150,9 +150,13 @@ breaks Iri before line = not (list_all is_iri (iris_in line))
 breaks Block before line = is_out_of_blocks before line
 breaks Form before line = is_malformed line
 
+-- the rules on the words of a line
+abbrev pub word_rules : List ScriptRule
+word_rules = Number ∷ Range ∷ Name ∷ Same ∷ Unknown ∷ Path ∷ Iri ∷ Block ∷ Form ∷ []
+
 -- the table
 abbrev pub table : List ScriptRule
-table = Head ∷ Word ∷ Order ∷ Twice ∷ Count ∷ Number ∷ Range ∷ Name ∷ Same ∷ Unknown ∷ Path ∷ Iri ∷ Block ∷ Form ∷ []
+table = Head ∷ Word ∷ Order ∷ Twice ∷ Count ∷ word_rules
 
 -- the first rule of the table that a line breaks
 abbrev pub broken_rule : Draft → Line → Option ScriptRule

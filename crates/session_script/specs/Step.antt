@@ -11,7 +11,7 @@ use Rattle.session_script.specs.declared.fault.ScriptFault.TheVariants.{Bad, Lim
 use Rattle.session_script.specs.Line.{Line}
 use Rattle.session_script.specs.Rules.{broken_rule}
 use Rattle.session_script.specs.Sections.{section_of}
-use Rattle.session_script.specs.Draft.{later, rate_in, block_in, blocks_in, workers_in, cells_in, reserve_in, bundle_in, inst_in, set_in, cable_in, out_in, action_in}
+use Rattle.session_script.specs.Draft.{latest, rate_in, block_in, blocks_in, workers_in, cells_in, reserve_in, bundle_in, inst_in, set_in, cable_in, out_in, action_in}
 
 -- a list with what a line adds
 abbrev pub added : {X : Type 0} → List X → Option X → List X
@@ -25,7 +25,7 @@ or_given old (Some n) = option_or old (Some n)
 
 abbrev pub moved : Section → Option Section → Section
 moved old None = old
-moved old (Some section) = later old section
+moved old (Some section) = latest old section
 
 abbrev pub with_number : Numbers → Line → Numbers
 with_number old line = record {

@@ -10,7 +10,7 @@ ghost use Rattle.session_script.specs.Line.Line.{setting as setting_line, bundle
 ghost use Rattle.session_script.specs.Rules.{broken_rule, block_reached};
 ghost use Rattle.session_script.specs.Sorts as sorts;
 ghost use Rattle.session_script.specs.Step.{with_line};
-ghost use Rattle.session_script.specs.Statement.{said, act_said};
+ghost use Rattle.session_script.specs.Said.{said, act_said};
 ghost use Rattle.session_script.specs.Judged.{IsActWell, IsWorkerWell};
 ghost use Rattle.session_script.specs.Words.{value_of};
 
@@ -78,7 +78,7 @@ impl Draft {
         match statement {
             Statement::Skipped | Statement::Miscounted(_) | Statement::Unknown => Ok(()),
             Statement::Header => {
-                self.section = self.section.later(Section::Settings);
+                self.section = self.section.latest(Section::Settings);
                 Ok(())
             }
             Statement::Setting(kind, number) => {
@@ -102,7 +102,7 @@ impl Draft {
         requires { value_of word.now < 2 ^ 32 }
         ensures { (line : ℕ) → self.new ≡ with_line self.old line (setting_line kind word.now) }
     {
-        self.section = self.section.later(Section::Settings);
+        self.section = self.section.latest(Section::Settings);
         self.numbers.set(kind, small_number(word));
     }
 
@@ -111,7 +111,7 @@ impl Draft {
     {
         let path = Text::from_str(alloc, without_slash(path))?;
         self.bundles.push(path)?;
-        self.section = self.section.later(Section::Bundles);
+        self.section = self.section.latest(Section::Bundles);
         Ok(())
     }
 
@@ -139,7 +139,7 @@ impl Draft {
             line,
         };
         self.insts.push(alloc, inst)?;
-        self.section = self.section.later(Section::Insts);
+        self.section = self.section.latest(Section::Insts);
         Ok(())
     }
 
@@ -163,7 +163,7 @@ impl Draft {
             value,
             line,
         })?;
-        self.section = self.section.later(Section::Sets);
+        self.section = self.section.latest(Section::Sets);
         Ok(())
     }
 
@@ -193,7 +193,7 @@ impl Draft {
             delayed: delayed.is_some(),
             line,
         })?;
-        self.section = self.section.later(Section::Cables);
+        self.section = self.section.latest(Section::Cables);
         Ok(())
     }
 
@@ -210,7 +210,7 @@ impl Draft {
         let inst = self.insts.place(name);
         let symbol = Text::from_str(alloc, symbol)?;
         self.outs.push(OutLine { inst, symbol, line })?;
-        self.section = self.section.later(Section::Outs);
+        self.section = self.section.latest(Section::Outs);
         Ok(())
     }
 
@@ -236,7 +236,7 @@ impl Draft {
             deed,
             line,
         })?;
-        self.section = self.section.later(Section::Actions);
+        self.section = self.section.latest(Section::Actions);
         Ok(())
     }
 }

@@ -60,7 +60,7 @@ pub enum Limit {
 }
 
 /// Why bytes are no session.
-#[derive(Clone, Copy, Debug, PartialEq, Eq)]
+#[derive(Clone, Copy, Debug)]
 pub enum ScriptFault {
     /// The first line that breaks a rule, counted from 1, and the first rule that it breaks.
     Bad(u32, ScriptRule),

@@ -91,9 +91,9 @@ impl Section {
         self as u32
     }
 
-    /// The later one of two.
-    pub(crate) fn later(self, other: Section) -> Section
-        ensures { result ≡ draft.later self other }
+    /// The later one of two sections.
+    pub(crate) fn latest(self, other: Section) -> Section
+        ensures { result ≡ draft.latest self other }
     {
         if self.order() <= other.order() {
             other

@@ -5,7 +5,7 @@ ghost use Rattle.session_script.specs.Line.{lines_of};
 ghost use Rattle.session_script.specs.Places as places;
 ghost use Rattle.session_script.specs.Playable.{IsPlayable};
 ghost use Rattle.session_script.specs.Script.{IsSessionOf};
-ghost use Rattle.session_script.specs.Statement.{said};
+ghost use Rattle.session_script.specs.Said.{said};
 ghost use Rattle.session_script.specs.Stock as stock;
 ghost use Rattle.session_script.specs.Words.{value_of};
 
@@ -53,7 +53,7 @@ fn is_playable(insts: &[Inst], statement: Statement<'_>) -> bool
 {
     match statement {
         Statement::Skipped | Statement::Header => true,
-        Statement::Setting(kind, word) => is_kept(kind, word),
+        Statement::Setting(kind, word) => plays_setting(kind, word),
         Statement::Inst(_, uri, worker) => worker.is_none() && is_stock_uri(uri),
         Statement::Set(name, symbol, _) => symbol == control_of(uri_at(insts, place(insts, name))),
         Statement::Cable(source, output, target, input, delayed) => {
@@ -64,8 +64,9 @@ fn is_playable(insts: &[Inst], statement: Statement<'_>) -> bool
     }
 }
 
-fn is_kept(kind: Setting, word: &str) -> bool
-    ensures { result ≡ spec.is_kept kind word.now }
+/// Whether the program keeps to a setting: to the frames of a block, and to up to 1024 blocks.
+fn plays_setting(kind: Setting, word: &str) -> bool
+    ensures { result ≡ spec.plays_setting kind word.now }
 {
     match kind {
         Setting::Block => true,

@@ -19,6 +19,3 @@ pub use fault::{Limit, ScriptFault, ScriptRule};
 pub use later::first_later;
 pub use reader::{one_answer, read, some_answer};
 pub use session::{Action, CableLine, Deed, Inst, OutLine, Session, SetLine};
-
-#[cfg(test)]
-mod tests;

@@ -6,7 +6,7 @@ ghost use Rattle.session_script.specs.Sorts as sorts;
 ghost use Rattle.session_script.specs.Judged as judged;
 ghost use Rattle.session_script.specs.Places.{is_there};
 ghost use Rattle.session_script.specs.Words as words;
-ghost use Rattle.session_script.specs.Statement.{said};
+ghost use Rattle.session_script.specs.Said.{said};
 
 use crate::draft::Draft;
 use crate::fault::ScriptRule;

@@ -2,7 +2,7 @@ ghost use Rattle.std.specs.Prelude.{◌≡◌};
 ghost use Rattle.session_script.specs.Words.{words};
 ghost use Rattle.session_script.specs.Line as spec;
 ghost use Rattle.session_script.specs.Line.Line.{miscounted};
-ghost use Rattle.session_script.specs.Statement.{said, said_or, IsOnlyWord, IsRest};
+ghost use Rattle.session_script.specs.Said.{said, said_or, IsOnlyWord, IsRest};
 
 use crate::keyword::{Keyword, Setting};
 use crate::words::cut_word;

@@ -17,6 +17,7 @@ pub enum Call {
 impl Call {
     ghost use Rattle.std.specs.Prelude.{◌≡◌, IfSome};
     ghost use Rattle.step_law.specs.Call.{call_number, call_at, call_name};
+    ghost use Rattle.step_law.specs.Form.{audio_calls, control_calls, worker_calls};
 
     /// The number that an entry has for it.
     pub fn number(self) -> u32
@@ -63,5 +64,30 @@ impl Call {
             Call::Cleanup => "cleanup",
             Call::Restore => "restore",
         }
+    }
+
+    /// Whether audio makes it.
+    pub fn is_by_audio(self) -> bool
+        ensures { result ≡ audio_calls self }
+    {
+        matches!(self, Call::Run | Call::Response | Call::EndRun)
+    }
+
+    /// Whether control makes it.
+    pub fn is_by_control(self) -> bool
+        ensures { result ≡ control_calls self }
+    {
+        match self {
+            Call::Make | Call::Activate | Call::Deactivate | Call::Cleanup => true,
+            Call::Save | Call::Restore => true,
+            _ => false,
+        }
+    }
+
+    /// Whether a worker makes it.
+    pub fn is_by_worker(self) -> bool
+        ensures { result ≡ worker_calls self }
+    {
+        matches!(self, Call::Work | Call::Save | Call::RestoreSafe)
     }
 }

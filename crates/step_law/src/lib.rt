@@ -4,9 +4,11 @@
 mod actor;
 mod call;
 mod entry;
+mod event;
 mod ring;
 
 pub use actor::Actor;
 pub use call::Call;
 pub use entry::{Entry, Kind};
+pub use event::Event;
 pub use ring::Ring;

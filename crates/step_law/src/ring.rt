@@ -19,6 +19,7 @@ pub enum Ring {
 
 impl Ring {
     ghost use Rattle.std.specs.Prelude.{◌≡◌, ◌<◌, ◌^◌, ◌+◌, ◌*◌};
+    ghost use Rattle.step_law.specs.Form.{is_ring};
     ghost use Rattle.step_law.specs.Ring.{ring_number, ring_at, actor_ring_at, inst_ring_at};
 
     /// The number that an entry has for it.
@@ -69,6 +70,19 @@ impl Ring {
             0 => Ring::Jobs(inst),
             1 => Ring::Responses(inst),
             _ => Ring::LocalJobs(inst),
+        }
+    }
+
+    /// Whether its worker is 1 to 8, and its instance below 32.
+    pub fn is_one(self) -> bool
+        ensures { result ≡ is_ring self }
+    {
+        match self {
+            Ring::ControlToAudio | Ring::AudioToControl => true,
+            Ring::ControlToWorker(worker) | Ring::WorkerToControl(worker) => {
+                0 < worker && worker < 9
+            }
+            Ring::Jobs(inst) | Ring::Responses(inst) | Ring::LocalJobs(inst) => inst < 32,
         }
     }
 }

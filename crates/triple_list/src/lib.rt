@@ -7,6 +7,3 @@ mod term;
 
 pub use listing::push_listing;
 pub use term::push_term;
-
-#[cfg(test)]
-mod tests;

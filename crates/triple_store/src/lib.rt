@@ -14,6 +14,3 @@ pub use fault::{MOST_ROWS, StoreFault};
 pub use matching::Matching;
 pub use store::Store;
 pub use term::{Term, Triple};
-
-#[cfg(test)]
-mod tests;

@@ -205,7 +205,10 @@ fn push(rows: &mut Vec<Triple>, triple: Triple) -> Result<(), NoMemory>
     ensures ok { OnOk result (rows.new.items ≡ rows.old.items ++ triple ∷ []) }
     ensures err { OnErr result (rows.new.items ≡ rows.old.items) }
 {
-    rows.reserve(1)?;
+    if let Err(fault) = rows.reserve(1) {
+        mem::drop(triple);
+        return Err(fault.into());
+    }
     rows.push_reserved(triple);
     Ok(())
 }

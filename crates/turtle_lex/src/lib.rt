@@ -18,8 +18,6 @@ mod run;
 mod start;
 mod stop;
 mod tag;
-#[cfg(test)]
-mod tests;
 mod word;
 
 pub use fault::LexFault;

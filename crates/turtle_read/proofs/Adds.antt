@@ -1,8 +1,8 @@
 -- What the store's answer says of the row.
-use Rattle.std.proofs.Common.{◌≡◌, ℕ, ◌<◌, ◌≤◌, Bool, true, false, cond, List, [], ◌∷◌, ◌++◌, Contains, length, take, ◌+◌, Result, Ok, Err, refl, ap, sym, subst, ◌∙◌, true≢false, arith}
+use Rattle.std.proofs.Common.{◌≡◌, ℕ, ◌≤◌, Bool, true, false, cond, List, [], ◌∷◌, ◌++◌, Contains, length, take, ◌+◌, Result, Ok, Err, refl, ap, sym, subst, ◌∙◌, true≢false, arith}
 use Rattle.std.specs.Prelude.{nat_le}
 use Rattle.std.specs.List.{list_any}
-use Rattle.std.proofs.lemmas.Bool.{false_from_ne_true, le-leb, lt-leb}
+use Rattle.std.proofs.lemmas.Bool.{false_from_ne_true, le-leb, leb-true, leb-false}
 use Rattle.std.proofs.lemmas.List.{take-append-le, take_all, length-append}
 use Rattle.triple_store.proofs.SameTerm.{contains_is, eq_of_triples, same_triple}
 use Rattle.triple_store.specs.Triples.{Adds}
@@ -49,12 +49,22 @@ pub newly : (old new : List Triple) (t : Triple) (n : Bool) → n ≡ true → A
 newly old new t true e adds = adds.0
 newly old new t false e adds = absurd (true≢false (sym e))
 
--- whether the rows are most
-pub full_from : (rows store : List Triple) → rows ≡ store → MOST_ROWS ≤ length rows → nat_le MOST_ROWS (length store) ≡ true
-full_from rows store e h = subst (λ (l : List Triple). nat_le MOST_ROWS (length l) ≡ true) e (le-leb MOST_ROWS (length rows) h)
+-- a row that was added newly had room
+not_full_by : (old new : List Triple) (t : Triple) (n : Bool) (full : Bool) → nat_le MOST_ROWS (length old) ≡ full → Adds old t n new → n ≡ true → length old ≤ MOST_ROWS
+    → (length old ≡ MOST_ROWS → (Contains old t → ⊥) → ⊥) → full ≡ false
+not_full_by old new t n false e adds is_new few not = refl
+not_full_by old new t n true e adds is_new few not = let most = leb-true MOST_ROWS (length old) e in absurd (not (omega (arith, most, few)) (newly old new t n is_new adds))
 
-pub room_from : (rows store : List Triple) → rows ≡ store → length rows < MOST_ROWS → nat_le MOST_ROWS (length store) ≡ false
-room_from rows store e h = subst (λ (l : List Triple). nat_le MOST_ROWS (length l) ≡ false) e (lt-leb MOST_ROWS (length rows) h)
+pub not_full : (old new : List Triple) (t : Triple) (n : Bool) → Adds old t n new → n ≡ true → length old ≤ MOST_ROWS
+    → (length old ≡ MOST_ROWS → (Contains old t → ⊥) → ⊥) → nat_le MOST_ROWS (length old) ≡ false
+not_full old new t n adds is_new few not = not_full_by old new t n (nat_le MOST_ROWS (length old)) refl adds is_new few not
+
+pub room_left : (old new : List Triple) (t : Triple) (n : Bool) → Adds old t n new → length old ≤ MOST_ROWS
+    → (length old ≡ MOST_ROWS → (Contains old t → ⊥) → ⊥) → length new ≤ MOST_ROWS
+room_left old new t true adds few not =
+    let small = leb-false MOST_ROWS (length old) (not_full old new t true adds refl few not) in
+    let long : length new ≡ length old + 1 = ap length adds.1 ∙ length-append old (t ∷ []) in omega (arith, small, long)
+room_left old new t false adds few not = let same : length new ≡ length old = ap length adds.1 in omega (arith, same, few)
 
 pub full_at : (rows : List Triple) → length rows ≡ MOST_ROWS → nat_le MOST_ROWS (length rows) ≡ true
 full_at rows e = le-leb MOST_ROWS (length rows) (omega arith)
@@ -71,5 +81,5 @@ held_added n old new t false within h = let same : length new ≡ length old = a
 pub kept_same : (n : ℕ) (old new : List Triple) → new ≡ old → take n new ≡ take n old
 kept_same n old new e = ap (take n) e
 
-pub all_kept : (n : ℕ) (rows store : List Triple) → n ≡ length rows → rows ≡ store → take n store ≡ store
-all_kept n rows store e same = ap (λ m. take m store) (e ∙ ap length same) ∙ take_all (length store) store (omega arith)
+pub all_kept : (n : ℕ) (store : List Triple) → n ≡ length store → take n store ≡ store
+all_kept n store e = ap (λ m. take m store) e ∙ take_all (length store) store (omega arith)

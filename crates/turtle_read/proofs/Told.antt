@@ -7,7 +7,9 @@ use Rattle.turtle_lex.specs.declared.fault.LexFault.TheVariants as lex
 use Rattle.turtle_document.specs.Answer.{Outcome, IsReadAs}
 use Rattle.turtle_document.specs.Answer.Outcome.{document, not_utf8, unclosed, bad_byte, syntax, fault}
 use Rattle.turtle_document.specs.Meaning.{State, beginning}
+use Rattle.turtle_document.specs.Numbers.{HaveFewNumbers}
 use Rattle.turtle_document.specs.Meaning.Fault.{no_prefix, bad_iri, too_deep, full_store}
+use Rattle.turtle_document.proofs.FewNumbers.{keeps_few_numbers}
 use Rattle.turtle_document.proofs.OneOutcome.{one_outcome}
 use Rattle.turtle_document.proofs.Rows.{keeps_rows}
 use Rattle.turtle_read.specs.declared.fault.TurtleFault.{TurtleFault}
@@ -35,6 +37,12 @@ told base old bytes (Err (BadIri at)) rows h o k = same_answer base old bytes (E
 told base old bytes (Err (Depth at)) rows h o k = same_answer base old bytes (Err (Depth at)) (fault (too_deep at)) o refl h.0 k
 told base old bytes (Err (StoreFull at)) rows h o k = same_answer base old bytes (Err (StoreFull at)) (fault (full_store at)) o refl h.0 k
 told base old bytes (Err NoMemory) rows h o k = inr refl
+
+-- where blank numbers were few they are so afterwards
+pub few_left : (base : List ℕ) (old : List Triple) (bytes : List ℕ) (r : Result ℕ TurtleFault) (rows : List Triple)
+    → ReadsDocument (beginning base old) bytes r rows → HaveFewNumbers old → HaveFewNumbers rows
+few_left base old bytes (Ok count) rows h few = keeps_few_numbers base old bytes rows h.0 few
+few_left base old bytes (Err why) rows h few = let P : List Triple → Type 0 = λ l. HaveFewNumbers l in subst P (sym h.1) few
 
 -- a document's rows are no fewer than those that were there
 pub no_fewer : (base : List ℕ) (old : List Triple) (bytes : List ℕ) (rows : List Triple)

@@ -1,7 +1,8 @@
-ghost use Rattle.std.specs.Prelude.{◌≡◌, ◌⊎◌, [], true, is_some, Err, OnOk, IfErr};
+ghost use Rattle.std.specs.Prelude.{◌≡◌, ◌⊎◌, [], true, is_some, Err, OnOk, OnErr, IfErr};
 ghost use Rattle.iri_resolve.specs.Components.{scheme_of};
 ghost use Rattle.turtle_document.specs.Answer.{Outcome, IsReadAs};
 ghost use Rattle.turtle_document.specs.Meaning.{beginning};
+ghost use Rattle.turtle_document.specs.Numbers.{HaveFewNumbers};
 ghost use Rattle.turtle_document.specs.declared.expected.Expected.TheVariants as expect;
 ghost use Rattle.turtle_read.specs.Answers.{Tells, ReadsDocument, answer_of};
 ghost use Rattle.turtle_read.specs.Faults.{Follows};
@@ -27,14 +28,16 @@ use turtle_lex::{LexFault, Lexer};
 
 /// Reads a Turtle 1.1 document, whose relative IRIs are seen from `base`, an IRI with a scheme, and adds its triples to the store,
 /// each once, in the order in which their objects end. It answers how many of them are new. Blank nodes are numbered on from those
-/// of the store.
+/// of the store, whose blank numbers are at most twice its rows, as they are in a store without rows; afterwards it is so again.
 ///
 /// Bytes that aren't UTF-8 are `NotUtf8`, whatever stands before them. Else the fault is the first one on the way from the first
 /// token to the last. After a fault the store has the rows that it had before.
 pub fn read(alloc: Global, base: &Text, bytes: &[u8], store: &mut Store) -> Result<u32, TurtleFault>
-    requires { is_some (scheme_of base.now) ≡ true }
+    requires scheme { is_some (scheme_of base.now) ≡ true }
+    requires few { HaveFewNumbers store.old }
     ensures answers { ReadsDocument (beginning base.now store.old) bytes.now result store.new }
     ensures told { (o : Outcome) → IsReadAs (beginning base.now store.old) bytes.now o → (result ≡ answer_of store.old o) ⊎ (result ≡ Err TurtleFault.NoMemory) }
+    ensures few { HaveFewNumbers store.new }
 {
     match simdutf8::compat::from_utf8(bytes) {
         Ok(text) => read_text(alloc, base, text, store),
@@ -55,14 +58,29 @@ fn read_text(alloc: Global, base: &Text, text: &str, store: &mut Store) -> Resul
     let hashing = store.hashing();
     let taken = mem::replace(store, Store::new(alloc));
     let environment = Environment::new(alloc, base, taken, hashing, recent);
-    let mut reader = Reader::new(alloc, words, shorts, environment);
+    let reader = Reader::new(alloc, words, shorts, environment);
+    match read_all(reader, text, store) {
+        Ok(()) => Ok(store.count() - before),
+        Err(fault) => Err(fault),
+    }
+}
+
+// Takes all tokens of a text, and gives the store back: as it was before, where there is a fault.
+fn read_all(reader: Reader, text: &str, store: &mut Store) -> Result<(), TurtleFault>
+    requires next { reader.next ≡ expect.Statement }
+    requires outer { reader.outer ≡ [] }
+    ensures ok { OnOk result (IsReadAs (inside reader) text.now (Outcome.document store.new)) }
+    ensures err { IfErr result (Tells (IsReadAs (inside reader) text.now)) }
+    ensures rows { OnErr result (store.new ≡ kept reader) }
+{
+    let mut reader = reader;
     match take_tokens(&mut reader, text) {
         Ok(()) => {
-            *store = reader.into_store();
-            Ok(store.count() - before)
+            mem::drop(mem::replace(store, reader.into_store()));
+            Ok(())
         }
         Err(fault) => {
-            *store = reader.into_old_store();
+            mem::drop(mem::replace(store, reader.into_old_store()));
             Err(fault)
         }
     }

@@ -3,6 +3,7 @@ ghost use Rattle.iri_resolve.specs.Components.{scheme_of};
 ghost use Rattle.indexmap.specs.IndexMap.{get};
 ghost use Rattle.std.specs.Str.{bytes_eq};
 ghost use Rattle.triple_store.specs.Triples.{blanks_of_triple, blanks_of_term};
+ghost use Rattle.triple_store.specs.declared.fault.TheConstants.{MOST_ROWS};
 ghost use Rattle.turtle_read.specs.Recents.{AreKnown};
 
 use crate::lexeme::Lexeme;
@@ -15,7 +16,7 @@ use lv_base::{NoMemory, Text};
 use seeded_hash::SeededHash;
 use std::alloc::Global;
 use std::mem;
-use triple_store::{MOST_ROWS, Store, StoreFault, Term, Triple};
+use triple_store::{Store, StoreFault, Term, Triple};
 use turtle_grammar::TokenKind;
 
 // The store takes numbers of blank nodes below this one.
@@ -37,6 +38,7 @@ pub struct Environment {
     ghost absolute: { is_some (scheme_of base) ≡ true },
     ghost known: { AreKnown base (get bytes_eq prefixes) recent },
     ghost held: { before ≤ length store },
+    ghost room: { length store ≤ MOST_ROWS },
 }
 
 fn is_numbered(term: &Term) -> bool
@@ -74,7 +76,7 @@ impl Environment {
         ensures kept { kept_of result ≡ store }
     {
         let blanks = store.blanks();
-        let before = store.rows().len();
+        let before = store.count() as usize;
         Environment {
             alloc,
             base,
@@ -97,14 +99,8 @@ impl Environment {
         if !are_numbered(&triple) {
             return Err(TokenFault::NoMemory);
         }
-        let is_full = self.store.rows().len() >= MOST_ROWS;
         match self.store.add(triple) {
-            Ok(is_new) => {
-                if is_new && is_full {
-                    return Err(TokenFault::StoreFull(at));
-                }
-                Ok(())
-            }
+            Ok(_) => Ok(()),
             Err(StoreFault::Full) => Err(TokenFault::StoreFull(at)),
             Err(StoreFault::NoMemory) => Err(TokenFault::NoMemory),
         }

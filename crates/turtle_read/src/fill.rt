@@ -1,14 +1,16 @@
 use crate::reader::Reader;
 use crate::token_fault::TokenFault;
-use lv_base::NoMemory;
+use lv_base::{NoMemory, Text};
 use triple_store::Term;
 use turtle_document::{Chain, Expected, Hole};
 
 const MOST_OPEN: usize = 256;
 
 impl Reader {
-    ghost use Rattle.std.specs.Prelude.{◌≡◌, ◌∷◌, length, IfOk, OnOk};
-    ghost use Rattle.turtle_read.specs.Moves.{filled, closed};
+    ghost use Rattle.std.specs.Prelude.{◌≡◌, [], length};
+    ghost use Rattle.triple_store.specs.declared.term.Term.TheVariants as terms;
+    ghost use Rattle.turtle_document.specs.Vocabulary.{xsd_string};
+    ghost use Rattle.turtle_read.specs.Moves.{filled, closed, add};
     ghost use Rattle.turtle_document.specs.Meaning as meaning;
     ghost use Rattle.turtle_document.specs.Meaning.{may_open};
     ghost use Rattle.turtle_read.specs.Faults.{Follows, Leads, Gives};
@@ -34,6 +36,30 @@ impl Reader {
         }
     }
 
+    // Fills a hole with a string of a datatype.
+    pub(crate) fn fill_typed(
+        &mut self,
+        hole: Hole,
+        at: usize,
+        text: Text,
+        datatype: Text,
+    ) -> Result<(), TokenFault>
+        ensures moves { Leads result (config_of self.new) (inside self.new) (filled hole at (terms.Literal text datatype []) self.old.outer (inside self.old)) }
+        ensures kept { kept self.new ≡ kept self.old }
+    {
+        let term = self.words.typed(text, datatype)?;
+        self.fill(hole, at, term)
+    }
+
+    // Fills a hole with a string alone.
+    pub(crate) fn fill_plain(&mut self, hole: Hole, at: usize, text: Text) -> Result<(), TokenFault>
+        ensures moves { Leads result (config_of self.new) (inside self.new) (filled hole at (terms.Literal text xsd_string []) self.old.outer (inside self.old)) }
+        ensures kept { kept self.new ≡ kept self.old }
+    {
+        let term = self.words.plain(text)?;
+        self.fill(hole, at, term)
+    }
+
     #[inline(always)]
     fn add_object(
         &mut self,
@@ -45,11 +71,27 @@ impl Reader {
         ensures moves { Leads result (config_of self.new) (inside self.new) (filled (Hole.Object subject predicate) at term self.old.outer (inside self.old)) }
         ensures kept { kept self.new ≡ kept self.old }
     {
-        let s = subject.clone()?;
-        let p = predicate.clone()?;
-        self.environment.add(at, s, p, term)?;
+        self.add_of(&subject, &predicate, at, term)?;
         self.expect(Expected::AfterObject { subject, predicate });
         Ok(())
+    }
+
+    // Adds a triple whose subject and predicate are those of the next one too.
+    #[inline(always)]
+    fn add_of(
+        &mut self,
+        subject: &Term,
+        predicate: &Term,
+        at: usize,
+        term: Term,
+    ) -> Result<(), TokenFault>
+        ensures value { Gives (λ _. inside self.new) result (add at subject.now predicate.now term (inside self.old)) }
+        ensures same { config_of self.new ≡ config_of self.old }
+        ensures kept { kept self.new ≡ kept self.old }
+    {
+        let s = subject.clone()?;
+        let p = predicate.clone()?;
+        self.environment.add(at, s, p, term)
     }
 
     fn add_item(&mut self, first: u32, node: u32, at: usize, term: Term) -> Result<(), TokenFault>

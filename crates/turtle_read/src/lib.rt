@@ -17,8 +17,6 @@ mod recent;
 mod shared;
 mod slot;
 mod string;
-#[cfg(test)]
-mod tests;
 mod token_fault;
 mod verb;
 mod vocabulary;

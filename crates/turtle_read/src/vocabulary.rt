@@ -3,6 +3,7 @@ ghost use Rattle.std.specs.Option.{option_copied, option_map};
 ghost use Rattle.triple_store.specs.declared.term.Term.TheVariants as terms;
 ghost use Rattle.turtle_document.specs.Machine.{as_shorthand};
 ghost use Rattle.turtle_document.specs.Vocabulary as words;
+ghost use Rattle.turtle_grammar.specs.Tree.Shorthand.{integer as integers, decimal as decimals, double_number, true_word};
 
 use lv_base::{NoMemory, Text};
 use std::alloc::Global;
@@ -14,16 +15,34 @@ use turtle_grammar::TokenKind;
 #[derive(Drop)]
 pub struct Vocabulary {
     kind: Text,
+    lists: Lists,
+    strings: Strings,
+    numbers: Numbers,
+}
+
+// The IRIs of collections.
+#[derive(Drop)]
+struct Lists {
     first: Text,
     rest: Text,
     nil: Text,
+}
+
+// The datatypes of strings, and the language tag of those without one.
+#[derive(Drop)]
+struct Strings {
     tagged: Text,
     string: Text,
+    no_tag: Text,
+}
+
+// The datatypes of numbers and truth values.
+#[derive(Drop)]
+struct Numbers {
     integer: Text,
     decimal: Text,
     double: Text,
     boolean: Text,
-    no_tag: Text,
 }
 
 fn joined(alloc: Global, namespace: &str, local: &str) -> Result<Text, NoMemory>
@@ -48,6 +67,50 @@ fn xsd(alloc: Global, local: &str) -> Result<Text, NoMemory>
     joined(alloc, "http://www.w3.org/2001/XMLSchema#", local)
 }
 
+impl Lists {
+    fn new(alloc: Global) -> Result<Self, NoMemory>
+        ensures first { IfOk result (λ lists. lists.first ≡ words.rdf_first) }
+        ensures rest { IfOk result (λ lists. lists.rest ≡ words.rdf_rest) }
+        ensures nil { IfOk result (λ lists. lists.nil ≡ words.rdf_nil) }
+    {
+        Ok(Lists {
+            first: rdf(alloc, "first")?,
+            rest: rdf(alloc, "rest")?,
+            nil: rdf(alloc, "nil")?,
+        })
+    }
+}
+
+impl Strings {
+    fn new(alloc: Global) -> Result<Self, NoMemory>
+        ensures tagged { IfOk result (λ strings. strings.tagged ≡ words.rdf_lang_string) }
+        ensures string { IfOk result (λ strings. strings.string ≡ words.xsd_string) }
+        ensures no_tag { IfOk result (λ strings. strings.no_tag ≡ []) }
+    {
+        Ok(Strings {
+            tagged: rdf(alloc, "langString")?,
+            string: xsd(alloc, "string")?,
+            no_tag: Text::from_str(alloc, "")?,
+        })
+    }
+}
+
+impl Numbers {
+    fn new(alloc: Global) -> Result<Self, NoMemory>
+        ensures integer { IfOk result (λ numbers. numbers.integer ≡ words.datatype_of integers) }
+        ensures decimal { IfOk result (λ numbers. numbers.decimal ≡ words.datatype_of decimals) }
+        ensures double { IfOk result (λ numbers. numbers.double ≡ words.datatype_of double_number) }
+        ensures boolean { IfOk result (λ numbers. numbers.boolean ≡ words.datatype_of true_word) }
+    {
+        Ok(Numbers {
+            integer: xsd(alloc, "integer")?,
+            decimal: xsd(alloc, "decimal")?,
+            double: xsd(alloc, "double")?,
+            boolean: xsd(alloc, "boolean")?,
+        })
+    }
+}
+
 impl Model for Vocabulary {
     ghost use Rattle.std.specs.Prelude.{ℕ};
     ghost use Rattle.turtle_read.specs.Vocabularies.{IsVocabulary};
@@ -56,23 +119,20 @@ impl Model for Vocabulary {
 
     ghost view = { λ _. 0 };
 
-    ghost invariant = { λ v. IsVocabulary v.kind v.first v.rest v.nil v.tagged v.string v.integer v.decimal v.double v.boolean v.no_tag };
+    ghost invariant = { λ v. IsVocabulary v.kind v.lists.first v.lists.rest v.lists.nil v.strings.tagged v.strings.string v.numbers.integer v.numbers.decimal v.numbers.double v.numbers.boolean v.strings.no_tag };
 }
 
 impl Vocabulary {
     pub fn new(alloc: Global) -> Result<Self, NoMemory> {
+        let kind = rdf(alloc, "type")?;
+        let lists = Lists::new(alloc)?;
+        let strings = Strings::new(alloc)?;
+        let numbers = Numbers::new(alloc)?;
         Ok(Vocabulary {
-            kind: rdf(alloc, "type")?,
-            first: rdf(alloc, "first")?,
-            rest: rdf(alloc, "rest")?,
-            nil: rdf(alloc, "nil")?,
-            tagged: rdf(alloc, "langString")?,
-            string: xsd(alloc, "string")?,
-            integer: xsd(alloc, "integer")?,
-            decimal: xsd(alloc, "decimal")?,
-            double: xsd(alloc, "double")?,
-            boolean: xsd(alloc, "boolean")?,
-            no_tag: Text::from_str(alloc, "")?,
+            kind,
+            lists,
+            strings,
+            numbers,
         })
     }
 
@@ -87,28 +147,28 @@ impl Vocabulary {
     pub fn first(&self) -> Result<Term, NoMemory>
         ensures { IfOk result (λ term. term ≡ terms.Iri words.rdf_first) }
     {
-        Ok(Term::Iri(self.first.clone()?))
+        Ok(Term::Iri(self.lists.first.clone()?))
     }
 
     /// rdf:rest
     pub fn rest(&self) -> Result<Term, NoMemory>
         ensures { IfOk result (λ term. term ≡ terms.Iri words.rdf_rest) }
     {
-        Ok(Term::Iri(self.rest.clone()?))
+        Ok(Term::Iri(self.lists.rest.clone()?))
     }
 
     /// rdf:nil
     pub fn nil(&self) -> Result<Term, NoMemory>
         ensures { IfOk result (λ term. term ≡ terms.Iri words.rdf_nil) }
     {
-        Ok(Term::Iri(self.nil.clone()?))
+        Ok(Term::Iri(self.lists.nil.clone()?))
     }
 
     /// A string.
     pub fn plain(&self, text: Text) -> Result<Term, NoMemory>
         ensures { IfOk result (λ term. term ≡ terms.Literal text words.xsd_string []) }
     {
-        let datatype = self.string.clone()?;
+        let datatype = self.strings.string.clone()?;
         self.typed(text, datatype)
     }
 
@@ -116,7 +176,7 @@ impl Vocabulary {
     pub fn tagged(&self, text: Text, lang: Text) -> Result<Term, NoMemory>
         ensures { IfOk result (λ term. term ≡ terms.Literal text words.rdf_lang_string lang) }
     {
-        let datatype = self.tagged.clone()?;
+        let datatype = self.strings.tagged.clone()?;
         Ok(Term::Literal {
             text,
             datatype,
@@ -128,7 +188,7 @@ impl Vocabulary {
     pub fn typed(&self, text: Text, datatype: Text) -> Result<Term, NoMemory>
         ensures { IfOk result (λ term. term ≡ terms.Literal text datatype []) }
     {
-        let lang = self.no_tag.clone()?;
+        let lang = self.strings.no_tag.clone()?;
         Ok(Term::Literal {
             text,
             datatype,
@@ -141,10 +201,10 @@ impl Vocabulary {
         ensures { option_copied result ≡ option_map words.datatype_of (as_shorthand kind) }
     {
         match kind {
-            TokenKind::Integer => Some(&self.integer),
-            TokenKind::Decimal => Some(&self.decimal),
-            TokenKind::Double => Some(&self.double),
-            TokenKind::True | TokenKind::False => Some(&self.boolean),
+            TokenKind::Integer => Some(&self.numbers.integer),
+            TokenKind::Decimal => Some(&self.numbers.decimal),
+            TokenKind::Double => Some(&self.numbers.double),
+            TokenKind::True | TokenKind::False => Some(&self.numbers.boolean),
             _ => None,
         }
     }

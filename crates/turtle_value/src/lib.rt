@@ -7,6 +7,3 @@ mod unescape;
 
 pub use name::{expand, prefix_text, tag_text};
 pub use quoted::{Quotes, plain_reference, reference_text, string_text};
-
-#[cfg(test)]
-mod tests;

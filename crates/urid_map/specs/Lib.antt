@@ -1,3 +1,2 @@
-pub mod Iri
 pub mod Numbers
 pub mod Table

@@ -6,7 +6,7 @@ use std::error::Error;
 use std::fmt;
 
 /// Why a URI got no number.
-#[derive(Clone, Copy, Debug, PartialEq, Eq)]
+#[derive(Clone, Copy, Debug)]
 pub enum UridFault {
     /// The URI is new, and there are `MOST_URIDS` numbers.
     Full,

@@ -9,6 +9,3 @@ mod urids;
 pub use fault::UridFault;
 pub use iri::is_iri_text;
 pub use urids::{MOST_URIDS, Urids};
-
-#[cfg(test)]
-mod tests;

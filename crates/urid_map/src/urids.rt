@@ -1,7 +1,7 @@
 ghost use Rattle.std.specs.Prelude.{◌≡◌, ◌↔◌, ◌<◌, ◌≤◌, ◌+◌, ◌^◌, [], length, map, true, false, IsTrue, IfSome, IfOk, OnOk, OnErr, IsErrOf, Ok};
 ghost use Rattle.std.specs.List.{list_all};
 ghost use Rattle.std.specs.Option.{option_copied};
-ghost use Rattle.urid_map.specs.Iri as iri;
+ghost use Rattle.iri_resolve.specs.Iri as iri;
 ghost use Rattle.urid_map.specs.Numbers.{holds, number_of, with_uri, with_uris, uri_of, AreNumbered, AreKept};
 ghost use Rattle.urid_map.specs.Table.{initial};
 
@@ -30,7 +30,7 @@ pub struct Urids {
 impl Model for Urids {
     ghost use Rattle.std.specs.Prelude.{◌≡◌, ◌≤◌, ◌^◌, true, ℕ, List, length};
     ghost use Rattle.std.specs.List.{list_all};
-    ghost use Rattle.urid_map.specs.Iri.{is_iri_text};
+    ghost use Rattle.iri_resolve.specs.Iri.{is_iri_text};
 
     ghost Value = { List (List ℕ) };
 

@@ -1,13 +1,16 @@
 ghost use Rattle.std.specs.Prelude.{◌≡◌, ◌≢◌, ◌++◌, IfOk, IfErr, OnOk};
+ghost use Rattle.plugin_list.specs.Listing.{plugin_lines};
 ghost use Rattle.plugin_list.specs.Rules.{rule_text};
 ghost use Rattle.plugin_decl.specs.declared.declaration.DeclFault.TheVariants.{NoMemory as Want};
+ghost use Rattle.session_load.specs.declared.fault.LoadFault.TheVariants.{NoMemory as NoRoom};
 ghost use Rattle.host_main.specs.Listing.{declared_lines, plugins_listing, IsDeclared, AreDeclared};
-ghost use Rattle.host_main.specs.PluginRefusals.{IsPluginRefusal, IsUriRefusal};
-ghost use Rattle.host_main.specs.declared.checking.refusal.CheckRefusal.TheVariants.{Undeclared};
+ghost use Rattle.host_main.specs.PluginRefusals.{IsPluginRefusal, IsUriRefusal, IsRefusalOf};
+ghost use Rattle.host_main.specs.declared.checking.refusal.CheckRefusal.TheVariants.{Load, Undeclared};
 
 use crate::checking::refusal::CheckRefusal;
 use lv_base::{Bytes, NoMemory, Text};
-use plugin_decl::DeclFault;
+use plugin_decl::{Decl, DeclFault};
+use session_load::LoadFault;
 use std::alloc::Global;
 use triple_store::Store;
 
@@ -41,8 +44,27 @@ fn push_plugin(
     ensures err { IfErr result (IsUriRefusal store.now uri.now) }
 {
     match plugin_decl::declare(alloc, store, uri, CHECK_BLOCK) {
-        Ok(plugin) => Ok(plugin_list::push_plugin(into, &plugin)?),
-        Err(fault) => Err(undeclared(alloc, uri, &fault)?),
+        Ok(plugin) => push_lines(into, &plugin),
+        Err(fault) => Err(refused(alloc, uri, &fault)),
+    }
+}
+
+// The lines of a plug-in and of its ports.
+fn push_lines(into: &mut Bytes, plugin: &Decl) -> Result<(), CheckRefusal>
+    ensures lines { OnOk result (into.new ≡ into.old ++ plugin_lines plugin.now) }
+    ensures err { IfErr result (λ refusal. refusal ≡ Load NoRoom) }
+{
+    plugin_list::push_plugin(into, plugin)?;
+    Ok(())
+}
+
+// Why a plug-in isn't listed that can't be declared: by the rule that it breaks, or for want of memory.
+fn refused(alloc: Global, uri: &Text, fault: &DeclFault) -> CheckRefusal
+    ensures { IsRefusalOf uri.now fault.now result }
+{
+    match undeclared(alloc, uri, fault) {
+        Ok(refusal) => refusal,
+        Err(NoMemory) => CheckRefusal::Load(LoadFault::NoMemory),
     }
 }
 

@@ -1,9 +1,9 @@
-ghost use Rattle.std.specs.Prelude.{◌≤◌};
-ghost use Rattle.host_main.specs.CheckStatus.{check_line, load_line, undeclared_line, turtle_at, turtle_line, no_memory_line};
+ghost use Rattle.host_main.specs.CheckStatus.{check_line, load_line, undeclared_line, turtle_at, turtle_line};
 ghost use Rattle.lv_outside.specs.World.{sink_at, IsSaid};
+ghost use Rattle.host_main.specs.GoesOn.{SinkGoesOn};
 
 use crate::checking::refusal::CheckRefusal;
-use crate::say::{put_line, put_pieces};
+use crate::say::{put_line, put_pieces, say_no_memory};
 use itoa::Buffer;
 use lv_base::{Bytes, Text};
 use lv_outside::{Put, Sink};
@@ -16,7 +16,7 @@ use turtle_read::TurtleFault;
 pub fn say<K: Sink>(refusal: &CheckRefusal, out: &mut K)
     ensures said { IsSaid (sink_at K.tells K.taken K.faults out.old) (sink_at K.tells K.taken K.faults out.new)
         (check_line refusal.now) }
-    ensures later { K.faults out.old ≤ K.faults out.new }
+    ensures goes_on { SinkGoesOn (sink_at K.tells K.taken K.faults out.old) (sink_at K.tells K.taken K.faults out.new) }
 {
     match refusal {
         CheckRefusal::Load(fault) => say_load(fault, out),
@@ -29,7 +29,7 @@ pub fn say<K: Sink>(refusal: &CheckRefusal, out: &mut K)
 fn say_load<K: Sink>(fault: &LoadFault, out: &mut K)
     ensures said { IsSaid (sink_at K.tells K.taken K.faults out.old) (sink_at K.tells K.taken K.faults out.new)
         (load_line fault.now) }
-    ensures later { K.faults out.old ≤ K.faults out.new }
+    ensures goes_on { SinkGoesOn (sink_at K.tells K.taken K.faults out.old) (sink_at K.tells K.taken K.faults out.new) }
 {
     match fault {
         LoadFault::Missing(path) => put_line(out, "lv2fx: 2 missing ", path.as_str(), "\n"),
@@ -46,7 +46,7 @@ fn say_load<K: Sink>(fault: &LoadFault, out: &mut K)
 fn say_turtle<K: Sink>(path: &Text, fault: TurtleFault, out: &mut K)
     ensures said { IsSaid (sink_at K.tells K.taken K.faults out.old) (sink_at K.tells K.taken K.faults out.new)
         (turtle_line path.now fault) }
-    ensures later { K.faults out.old ≤ K.faults out.new }
+    ensures goes_on { SinkGoesOn (sink_at K.tells K.taken K.faults out.old) (sink_at K.tells K.taken K.faults out.new) }
 {
     match fault {
         TurtleFault::Lex(LexFault::NotUtf8(at)) => say_at(path, at, " utf8\n", out),
@@ -64,7 +64,7 @@ fn say_turtle<K: Sink>(path: &Text, fault: TurtleFault, out: &mut K)
 fn say_at<K: Sink>(path: &Text, at: usize, kind: &str, out: &mut K)
     ensures said { IsSaid (sink_at K.tells K.taken K.faults out.old) (sink_at K.tells K.taken K.faults out.new)
         (turtle_at path.now at kind.now) }
-    ensures later { K.faults out.old ≤ K.faults out.new }
+    ensures goes_on { SinkGoesOn (sink_at K.tells K.taken K.faults out.old) (sink_at K.tells K.taken K.faults out.new) }
 {
     if out.put("lv2fx: 5 turtle ".as_bytes()) == Put::Failed {
         return;
@@ -80,7 +80,7 @@ fn say_at<K: Sink>(path: &Text, at: usize, kind: &str, out: &mut K)
 fn say_undeclared<K: Sink>(uri: &Text, rule: &Bytes, out: &mut K)
     ensures said { IsSaid (sink_at K.tells K.taken K.faults out.old) (sink_at K.tells K.taken K.faults out.new)
         (undeclared_line uri.now rule.now) }
-    ensures later { K.faults out.old ≤ K.faults out.new }
+    ensures goes_on { SinkGoesOn (sink_at K.tells K.taken K.faults out.old) (sink_at K.tells K.taken K.faults out.new) }
 {
     if out.put("lv2fx: 6 plugin ".as_bytes()) == Put::Failed {
         return;
@@ -89,11 +89,4 @@ fn say_undeclared<K: Sink>(uri: &Text, rule: &Bytes, out: &mut K)
         return;
     }
     put_pieces(out, " ".as_bytes(), rule.as_slice(), "\n".as_bytes());
-}
-
-fn say_no_memory<K: Sink>(out: &mut K)
-    ensures said { IsSaid (sink_at K.tells K.taken K.faults out.old) (sink_at K.tells K.taken K.faults out.new) no_memory_line }
-    ensures later { K.faults out.old ≤ K.faults out.new }
-{
-    put_line(out, "lv2fx: 14 no memory\n", "", "");
 }

@@ -1,4 +1,4 @@
-use super::sessions::{Plan, is_valid, session};
+use super::sessions::{Plan, is_playable, session};
 use super::steps::assert_text;
 use super::toy::Toys;
 use lv_base::NoMemory;
@@ -15,7 +15,7 @@ const AMP: &str = "urn:lv2fx:amp";
 /// What the run of a session gives.
 fn outcome_of(rt: &impl Abort, alloc: Global, plan: &Plan<'_>) -> Result<Outcome, NoMemory> {
     let session = session(alloc, plan)?;
-    assert!(rt; is_valid(&session));
+    assert!(rt; is_playable(&session));
     render(alloc, &session, &Toys)
 }
 

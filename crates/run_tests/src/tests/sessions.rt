@@ -3,8 +3,8 @@ ghost use Rattle.session_script.specs.declared.session.Inst.{Inst};
 ghost use Rattle.session_script.specs.declared.session.SetLine.{SetLine};
 ghost use Rattle.session_script.specs.declared.session.CableLine.{CableLine};
 ghost use Rattle.session_script.specs.declared.session.OutLine.{OutLine};
-ghost use Rattle.session_script.specs.FirstPath.Stock.{IsStockUri};
-ghost use Rattle.session_script.specs.FirstPath.Valid.{IsValid, LeadsOn};
+ghost use Rattle.session_script.specs.Stock.{IsStockUri};
+ghost use Rattle.session_script.specs.Playable.{IsPlayable, LeadsOn};
 
 use lv_base::{Fixed, Items, NoMemory, Text};
 use session_script::{CableLine, Inst, OutLine, Session, SetLine};
@@ -91,9 +91,9 @@ fn outs(alloc: Global, plan: &[u32]) -> Result<Items<OutLine>, NoMemory> {
     Ok(outs)
 }
 
-/// Whether a session keeps what one that was read keeps.
-pub fn is_valid(session: &Session) -> bool
-    ensures { result ≡ true → IsValid session.now }
+/// Whether a session keeps what one keeps whose every line can be played.
+pub fn is_playable(session: &Session) -> bool
+    ensures { result ≡ true → IsPlayable session.now }
 {
     let count = session.insts.len();
     1 <= session.block

@@ -1,5 +1,5 @@
 use Rattle.host_main.proofs.Answers.{answers}
 use Rattle.host_main.proofs.rendering.run_render.Goals as goal
 
-pub returns : goal.returns
-returns g c = answers _ _ _ _ _ _ _ _ c.answer.ensures
+pub returns-clause-answers : goal.returns-clause-answers
+returns-clause-answers g c = answers _ _ _ _ _ _ _ _ c.answer.ensures.explained

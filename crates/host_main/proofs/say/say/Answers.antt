@@ -29,4 +29,4 @@ pub returns-in-TooLong-clause-said : goal.returns-in-TooLong-clause-said
 returns-in-TooLong-clause-said g c = rw c.in-TooLong.is c.put_line-in-TooLong.ensures.said
 
 pub returns-in-NoMemory-clause-said : goal.returns-in-NoMemory-clause-said
-returns-in-NoMemory-clause-said g c = rw c.in-NoMemory.is c.put_line-in-NoMemory.ensures.said
+returns-in-NoMemory-clause-said g c = rw c.in-NoMemory.is c.say_no_memory.ensures.said

@@ -5,7 +5,7 @@ use Rattle.std.proofs.lemmas.Iterator.Search.{position_from_yields_List}
 use Rattle.std.proofs.lemmas.Iterator.Splits.{YieldsList-from_lines}
 use Rattle.session_script.specs.Later.{is_playable}
 use Rattle.session_script.specs.Line.{line_of}
-use Rattle.session_script.specs.Statement.{said}
+use Rattle.session_script.specs.Said.{said}
 use Rattle.session_script.specs.Words.{words}
 use Rattle.session_script.proofs.later.lines_before.Goals as goal
 

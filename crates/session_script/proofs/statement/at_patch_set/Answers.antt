@@ -1,7 +1,7 @@
 use Rattle.std.proofs.Common.{sym, ap, ◌∙◌}
 use Rattle.session_script.specs.declared.keyword.Keyword.TheVariants.{At}
 use Rattle.session_script.specs.Line.Line.{miscounted}
-use Rattle.session_script.specs.Statement.{said_or}
+use Rattle.session_script.specs.Said.{said_or}
 use Rattle.session_script.proofs.Forms.{patch_count}
 use Rattle.session_script.proofs.statement.at_patch_set.Goals as goal
 

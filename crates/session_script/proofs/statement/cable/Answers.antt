@@ -1,7 +1,7 @@
 use Rattle.std.proofs.Common.{sym, ap, ◌∙◌}
 use Rattle.session_script.specs.declared.keyword.Keyword.TheVariants.{Cable}
 use Rattle.session_script.specs.Line.Line.{miscounted}
-use Rattle.session_script.specs.Statement.{said_or}
+use Rattle.session_script.specs.Said.{said_or}
 use Rattle.session_script.proofs.Forms.{cable_long}
 use Rattle.session_script.proofs.statement.cable.Goals as goal
 

@@ -14,7 +14,7 @@ loop-token-init c =
 pub returns-in_err-token-clause-err : goal.returns-in_err-token-clause-err
 returns-in_err-token-clause-err c =
     told_on (Tells (IsReadAs (inside c.args.reader.now) c.args.text.now)) c.from_residual.result _ c.from_residual.ensures.1
-    (breaks (inside c.args.reader.now) c.args.text.now c.loop-token.lexer (config_of c.loop-token.reader) (inside c.loop-token.reader) c.in_err-token.field-0.0 c.next.new.lexer c.loop-token.invariant.0 c.in_err-token.ensures)
+    (breaks (inside c.args.reader.now) c.args.text.now c.loop-token.lexer (config_of c.loop-token.reader) (inside c.loop-token.reader) c.in_err-token.field-0.0 c.next.new.lexer c.loop-token.invariant.0 c.in_err-token.ensures.steps)
 
 pub returns-in_err-token-clause-kept : goal.returns-in_err-token-clause-kept
 returns-in_err-token-clause-kept c = c.loop-token.invariant.1
@@ -22,18 +22,18 @@ returns-in_err-token-clause-kept c = c.loop-token.invariant.1
 pub take_token-requires : goal.take_token-requires
 take_token-requires c =
     is_token (inside c.args.reader.now) c.args.text.now c.loop-token.lexer (config_of c.loop-token.reader) (inside c.loop-token.reader) c.in-Some.token c.next.new.lexer c.loop-token.invariant.0
-    (steps_as c.loop-token.lexer c.next.new.lexer _ _ c.in-Some.is c.in_ok-token.ensures)
+    (steps_as c.loop-token.lexer c.next.new.lexer _ _ c.in-Some.is c.in_ok-token.ensures.steps)
 
 pub loop-token-smaller : goal.loop-token-smaller
 loop-token-smaller c =
     further (inside c.args.reader.now) c.args.text.now c.loop-token.lexer (config_of c.loop-token.reader) (inside c.loop-token.reader) c.in-Some.token c.next.new.lexer c.loop-token.invariant.0
-    (steps_as c.loop-token.lexer c.next.new.lexer _ _ c.in-Some.is c.in_ok-token.ensures)
+    (steps_as c.loop-token.lexer c.next.new.lexer _ _ c.in-Some.is c.in_ok-token.ensures.steps)
 
 pub loop-token-preserved : goal.loop-token-preserved
 loop-token-preserved c = (
   at_next (inside c.args.reader.now) c.args.text.now c.loop-token.lexer (config_of c.loop-token.reader) (inside c.loop-token.reader) c.in-Some.token c.next.new.lexer
       (config_of c.take_token.new.reader) (inside c.take_token.new.reader) c.loop-token.invariant.0
-      (steps_as c.loop-token.lexer c.next.new.lexer _ _ c.in-Some.is c.in_ok-token.ensures) c.in_ok-take_token.ensures.moves,
+      (steps_as c.loop-token.lexer c.next.new.lexer _ _ c.in-Some.is c.in_ok-token.ensures.steps) c.in_ok-take_token.ensures.moves,
   c.in_ok-take_token.ensures.kept ∙ c.loop-token.invariant.1,
 )
 
@@ -41,7 +41,7 @@ pub returns-in_err-take_token-clause-err : goal.returns-in_err-take_token-clause
 returns-in_err-take_token-clause-err c =
     told_on (Tells (IsReadAs (inside c.args.reader.now) c.args.text.now)) c.from_residual-in_err-take_token.result _ c.from_residual-in_err-take_token.ensures.1
     (stops_at (inside c.args.reader.now) c.args.text.now c.loop-token.lexer (config_of c.loop-token.reader) (inside c.loop-token.reader) c.in-Some.token c.next.new.lexer c.in_err-take_token.field-0.0 c.loop-token.invariant.0
-    (steps_as c.loop-token.lexer c.next.new.lexer _ _ c.in-Some.is c.in_ok-token.ensures) c.in_err-take_token.ensures.moves)
+    (steps_as c.loop-token.lexer c.next.new.lexer _ _ c.in-Some.is c.in_ok-token.ensures.steps) c.in_err-take_token.ensures.moves)
 
 pub returns-in_err-take_token-clause-kept : goal.returns-in_err-take_token-clause-kept
 returns-in_err-take_token-clause-kept c = c.in_err-take_token.ensures.kept ∙ c.loop-token.invariant.1
@@ -49,7 +49,7 @@ returns-in_err-take_token-clause-kept c = c.in_err-take_token.ensures.kept ∙ c
 pub returns-in-Statement-clause-ok : goal.returns-in-Statement-clause-ok
 returns-in-Statement-clause-ok c =
     is_document (inside c.args.reader.now) c.args.text.now c.loop-token.lexer (config_of c.loop-token.reader) (inside c.loop-token.reader) c.next.new.lexer c.loop-token.invariant.0
-    (ended c.loop-token.lexer c.next.new.lexer _ c.in_default.not-Some c.in_ok-token.ensures) c.in-Statement.is
+    (ended c.loop-token.lexer c.next.new.lexer _ c.in_default.not-Some c.in_ok-token.ensures.steps) c.in-Statement.is
 
 pub returns-in-Statement-clause-kept : goal.returns-in-Statement-clause-kept
 returns-in-Statement-clause-kept c = c.loop-token.invariant.1
@@ -59,6 +59,6 @@ returns-in_default-next c =
     record {
       ok = tt;
       err = ends_early (inside c.args.reader.now) c.args.text.now c.loop-token.lexer (config_of c.loop-token.reader) (inside c.loop-token.reader) c.next.new.lexer c.loop-token.invariant.0
-          (ended c.loop-token.lexer c.next.new.lexer _ c.in_default.not-Some c.in_ok-token.ensures) c.in_default-next.not-Statement;
+          (ended c.loop-token.lexer c.next.new.lexer _ c.in_default.not-Some c.in_ok-token.ensures.steps) c.in_default-next.not-Statement;
       kept = c.loop-token.invariant.1;
     }

@@ -19,7 +19,7 @@ returns-clause-plays g c =
     let make = g.C.Codes.make_of in
     let made : c.in_ok-front.front ≡ make (uri_at s i) = c.in_ok-front.ensures ∙ ap (λ (insts : List Inst). make (get_or insts i inst).uri) c.as_slice.ensures ∙ ap make (sym (get_or-map (λ (inst : Inst). inst.uri) s.insts i inst [] c.requires.there)) in
     let there : length fronts < length (uris_of s) = omega (arith, length-map s.insts (λ (inst : Inst). inst.uri), c.requires.next, c.requires.there) in
-    let uri = ap g.C.Front.Front.uri_of made ∙ g.met.C.Codes.made_of (uri_at s i) (stock-at s i inst c.requires.valid c.requires.there) ∙ ap (uri_at s) (sym c.requires.next) in
+    let uri = ap g.C.Front.Front.uri_of made ∙ g.met.C.Codes.made_of (uri_at s i) (stock-at s i inst c.requires.playable c.requires.there) ∙ ap (uri_at s) (sym c.requires.next) in
     record {
       steps = steps-called run.steps c.push.new.self c.push-3.new.self c.begin.result c.end.result (begin_of Control Make i) (end_of Control Make i) c.in_ok-push.ensures.ok c.in_ok-push-3.ensures.ok c.begin.ensures c.end.ensures;
       moment = ap (λ (fronts : List g.row.C-Front.Denot). record (moment_of run) { fronts = fronts }) (c.in_ok-push-2.ensures.items ∙ ap (λ (f : g.row.C-Front.Denot). fronts ++ f ∷ []) made ∙ sym (put-next fronts i (make (uri_at s i)) c.requires.next));

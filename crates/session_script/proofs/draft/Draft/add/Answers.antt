@@ -1,5 +1,5 @@
 use Rattle.std.specs.Option.{option_copied}
-use Rattle.session_script.specs.Statement.{act_said}
+use Rattle.session_script.specs.Said.{act_said}
 use Rattle.session_script.proofs.Bounds.{setting_small, new_name, worker_small, block_small, act_well}
 use Rattle.session_script.proofs.draft.Draft.add.Goals as goal
 

@@ -1,4 +1,6 @@
-use Rattle.std.proofs.Common.{◌∙◌, refl, ap, sym}
+use Rattle.std.proofs.Common.{◌∙◌, [], refl, ap, sym}
+use Rattle.triple_store.specs.declared.term.Term.TheVariants as terms
+use Rattle.turtle_document.specs.Vocabulary.{xsd_string}
 use Rattle.turtle_read.specs.Faults.{leaf_of}
 use Rattle.turtle_read.specs.Moves as moves
 use Rattle.turtle_read.specs.Readers.{inside}
@@ -13,20 +15,20 @@ returns-then-not-follows-clause-moves c = (
       c.requires.untagged c.requires.untyped (sym c.follows.ensures ∙ c.if-not-follows.true),
 )
 
-pub returns-in_err-fill-clause-moves : goal.returns-in_err-fill-clause-moves
-returns-in_err-fill-clause-moves c =
-    residual c.args.token.at c.from_residual-in_err-fill.result c.in_err-fill.field-0.0 _ _ _ c.from_residual-in_err-fill.ensures.1
-    (laws.stops_as c.args.token.at c.in_err-fill.field-0.0 _ _ (laws.string_on c.args.token.kind (leaf_of c.args.token) c.args.text c.args.at c.args.hole c.args.self.now.outer (inside c.args.self.now) c.in_ok-term.term
+pub returns-in_err-fill_plain-clause-moves : goal.returns-in_err-fill_plain-clause-moves
+returns-in_err-fill_plain-clause-moves c =
+    residual c.args.token.at c.from_residual.result c.in_err-fill_plain.field-0.0 _ _ _ c.from_residual.ensures.1
+    (laws.stops_as c.args.token.at c.in_err-fill_plain.field-0.0 _ _ (laws.string_on c.args.token.kind (leaf_of c.args.token) c.args.text c.args.at c.args.hole c.args.self.now.outer (inside c.args.self.now) (terms.Literal c.args.text xsd_string [])
     c.requires.untagged c.requires.untyped
-    (sym c.follows.ensures ∙ c.if-not-follows.false) c.in_ok-term.ensures)
-    (laws.stops_going c.args.token.at c.in_err-fill.field-0.0 _ c.args.token.kind (leaf_of c.args.token) (c.in_err-fill.ensures.moves c.args.token.at)))
+    (sym c.follows.ensures ∙ c.if-not-follows.false) refl)
+    (laws.stops_going c.args.token.at c.in_err-fill_plain.field-0.0 _ c.args.token.kind (leaf_of c.args.token) (c.in_err-fill_plain.ensures.moves c.args.token.at)))
 
 pub returns-clause-moves : goal.returns-clause-moves
 returns-clause-moves c =
-    follows_as c.args.token.at c.plain_step.result _ _ _ _ (laws.string_on c.args.token.kind (leaf_of c.args.token) c.args.text c.args.at c.args.hole c.args.self.now.outer (inside c.args.self.now) c.in_ok-term.term
+    follows_as c.args.token.at c.plain_step.result _ _ _ _ (laws.string_on c.args.token.kind (leaf_of c.args.token) c.args.text c.args.at c.args.hole c.args.self.now.outer (inside c.args.self.now) (terms.Literal c.args.text xsd_string [])
     c.requires.untagged c.requires.untyped
-    (sym c.follows.ensures ∙ c.if-not-follows.false) c.in_ok-term.ensures
-    ∙ ap (λ m. laws.go_on m c.args.token.kind (leaf_of c.args.token)) (c.in_ok-fill.ensures.moves c.args.token.at)
-    ∙ ap (λ n. moves.plain_move n c.fill.new.self.outer c.args.token.kind (leaf_of c.args.token) (inside c.fill.new.self)) (sym c.take_next-next.ensures.next)
+    (sym c.follows.ensures ∙ c.if-not-follows.false) refl
+    ∙ ap (λ m. laws.go_on m c.args.token.kind (leaf_of c.args.token)) (c.in_ok-fill_plain.ensures.moves c.args.token.at)
+    ∙ ap (λ n. moves.plain_move n c.fill_plain.new.self.outer c.args.token.kind (leaf_of c.args.token) (inside c.fill_plain.new.self)) (sym c.take_next-next.ensures.next)
     ∙ ap (λ s. moves.plain_move c.take_next-next.result s.outer c.args.token.kind (leaf_of c.args.token) (inside s)) (sym c.take_next-next.ensures.rest))
     c.plain_step.ensures.moves

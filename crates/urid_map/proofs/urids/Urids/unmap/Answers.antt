@@ -1,4 +1,4 @@
-use Rattle.urid_map.specs.Iri.{is_iri_text}
+use Rattle.iri_resolve.specs.Iri.{is_iri_text}
 use Rattle.urid_map.proofs.Places.{passes_some}
 use Rattle.urid_map.proofs.urids.Urids.unmap.Goals as goal
 

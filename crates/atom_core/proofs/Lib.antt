@@ -1,0 +1,12 @@
+pub mod Ranges
+pub mod TypeForms
+pub mod Numbers
+pub mod Plains
+pub mod Padding
+pub mod Entering
+pub mod Walks
+pub mod Wholes
+pub mod OneValue
+pub mod Reading
+pub mod OneAnswer
+pub mod Readings

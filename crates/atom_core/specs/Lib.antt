@@ -1,0 +1,11 @@
+pub mod Form
+pub mod Place
+pub mod Value
+pub mod Spelling
+pub mod Fits
+pub mod Content
+pub mod Parts
+pub mod Steps
+pub mod Answer
+pub mod Readers
+pub mod Laws

@@ -1,0 +1,17 @@
+//! Atoms of LV2: values, and the bytes that spell them.
+#![tactic(auto)]
+
+mod content;
+mod fault;
+mod form;
+mod kind;
+mod laws;
+mod number;
+mod outer;
+mod part;
+mod view;
+
+pub use fault::AtomFault;
+pub use laws::{one_answer, one_spelling, one_value};
+pub use outer::check;
+pub use view::{AtomView, read};

@@ -1,0 +1,5 @@
+//! Tests of Turtle documents, over what `turtle_read` exports.
+#![tactic(auto)]
+
+#[cfg(test)]
+mod tests;

@@ -1,0 +1,6 @@
+mod counts;
+mod depth;
+mod faults;
+mod fronts;
+mod listings;
+mod reading;

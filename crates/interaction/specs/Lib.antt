@@ -1,0 +1,4 @@
+pub mod Interaction
+pub mod Attempts
+pub mod Answers
+pub mod Laws

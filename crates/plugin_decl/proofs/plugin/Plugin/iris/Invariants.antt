@@ -1,9 +1,0 @@
-use Rattle.std.proofs.Common.{◌≡◌, ◌++◌}
-use Rattle.std.specs.List.{filter_map}
-use Rattle.plugin_decl.specs.Objects.{objects_of}
-use Rattle.plugin_decl.specs.Values.{iri_in}
-use Rattle.plugin_decl.proofs.plugin.Plugin.iris.Given as goal
-
--- the IRIs so far, and those that are left
-abbrev pub invariant-loop-object : goal.invariant-loop-object
-invariant-loop-object l = (goal.iterator-loop-object).can_next l.object-iterator × (goal.iterator-loop-object).is_finite l.object-iterator × (l.iris ++ filter_map iri_in l.object-iterator ≡ filter_map iri_in (objects_of l.self.store.now l.self.term.now l.fn.word))

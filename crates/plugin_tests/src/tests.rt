@@ -1,0 +1,5 @@
+mod amplifier;
+mod declarations;
+mod lines;
+mod rules;
+mod urids;

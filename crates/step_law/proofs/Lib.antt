@@ -1,0 +1,2 @@
+mod EventLaws
+mod EntryLaws

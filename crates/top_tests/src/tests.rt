@@ -1,0 +1,4 @@
+mod check;
+mod ended;
+mod render;
+mod stock;
