@@ -1,6 +1,6 @@
 ghost use Rattle.std.specs.Prelude.{◌≡◌, List, IfOk, IfErr, OnOk};
 ghost use Rattle.triple_store.specs.declared.term.Triple.{Triple};
-ghost use Rattle.lv_outside.specs.World.{vault_at, sink_at, LeavesFiles};
+ghost use Rattle.lv_outside.specs.World.{LeavesFiles};
 ghost use Rattle.session_load.specs.Bundle.{IsBundle, IsUnloaded};
 ghost use Rattle.host_main.specs.Listing.{check_listing, AreDeclared};
 ghost use Rattle.host_main.specs.PluginRefusals.{IsPluginRefusal};
@@ -31,31 +31,21 @@ use triple_store::Store;
 /// a limit of the reader, 6 the first plug-in that breaks a rule of declarations, 9 a file is
 /// longer than 16 MiB, 14 no memory. It writes no file.
 pub fn run_check<V: Vault, K: Sink>(alloc: Global, bundle: &Text, vault: &mut V, out: &mut K) -> u8
-    ensures answers { AnswersCheck (folder_of bundle.now)
-        (vault_at V.tells V.file V.faults V.absences V.longs vault.old)
-        (vault_at V.tells V.file V.faults V.absences V.longs vault.new)
-        (sink_at K.tells K.taken K.faults out.old) (sink_at K.tells K.taken K.faults out.new) result }
-    ensures vault { VaultGoesOn
-        (vault_at V.tells V.file V.faults V.absences V.longs vault.old)
-        (vault_at V.tells V.file V.faults V.absences V.longs vault.new) }
-    ensures sink { SinkGoesOn (sink_at K.tells K.taken K.faults out.old) (sink_at K.tells K.taken K.faults out.new) }
+    ensures answers { AnswersCheck (folder_of bundle.now) (V.state vault.old) (V.state vault.new)
+        (K.state out.old) (K.state out.new) result }
+    ensures vault { VaultGoesOn (V.state vault.old) (V.state vault.new) }
+    ensures sink { SinkGoesOn (K.state out.old) (K.state out.new) }
 {
     answer(alloc, bundle, vault, out)
 }
 
 // The answer, with its cause.
 fn answer<V: Vault, K: Sink>(alloc: Global, bundle: &Text, vault: &mut V, out: &mut K) -> u8
-    ensures explained { Explains (folder_of bundle.now)
-        (vault_at V.tells V.file V.faults V.absences V.longs vault.old)
-        (vault_at V.tells V.file V.faults V.absences V.longs vault.new)
-        (sink_at K.tells K.taken K.faults out.old) (sink_at K.tells K.taken K.faults out.new) result }
-    ensures files { LeavesFiles
-        (vault_at V.tells V.file V.faults V.absences V.longs vault.old)
-        (vault_at V.tells V.file V.faults V.absences V.longs vault.new) }
-    ensures vault { VaultGoesOn
-        (vault_at V.tells V.file V.faults V.absences V.longs vault.old)
-        (vault_at V.tells V.file V.faults V.absences V.longs vault.new) }
-    ensures sink { SinkGoesOn (sink_at K.tells K.taken K.faults out.old) (sink_at K.tells K.taken K.faults out.new) }
+    ensures explained { Explains (folder_of bundle.now) (V.state vault.old) (V.state vault.new)
+        (K.state out.old) (K.state out.new) result }
+    ensures files { LeavesFiles (V.state vault.old) (V.state vault.new) }
+    ensures vault { VaultGoesOn (V.state vault.old) (V.state vault.new) }
+    ensures sink { SinkGoesOn (K.state out.old) (K.state out.new) }
 {
     match check_to(alloc, bundle, vault, out) {
         Ok(()) => DONE,
@@ -72,22 +62,13 @@ fn check_to<V: Vault, K: Sink>(
     vault: &mut V,
     out: &mut K,
 ) -> Result<(), CheckRefusal>
-    ensures ok { OnOk result (IsListed (folder_of bundle.now)
-        (vault_at V.tells V.file V.faults V.absences V.longs vault.old)
-        (sink_at K.tells K.taken K.faults out.old) (sink_at K.tells K.taken K.faults out.new)) }
-    ensures err { IfErr result (IsCaused (folder_of bundle.now)
-        (vault_at V.tells V.file V.faults V.absences V.longs vault.old)
-        (vault_at V.tells V.file V.faults V.absences V.longs vault.new)
-        (sink_at K.tells K.taken K.faults out.old) (sink_at K.tells K.taken K.faults out.new)) }
-    ensures quiet { IfErr result (λ refusal. LeavesSink refusal
-        (sink_at K.tells K.taken K.faults out.old) (sink_at K.tells K.taken K.faults out.new)) }
-    ensures files { LeavesFiles
-        (vault_at V.tells V.file V.faults V.absences V.longs vault.old)
-        (vault_at V.tells V.file V.faults V.absences V.longs vault.new) }
-    ensures vault { VaultGoesOn
-        (vault_at V.tells V.file V.faults V.absences V.longs vault.old)
-        (vault_at V.tells V.file V.faults V.absences V.longs vault.new) }
-    ensures sink { SinkGoesOn (sink_at K.tells K.taken K.faults out.old) (sink_at K.tells K.taken K.faults out.new) }
+    ensures ok { OnOk result (IsListed (folder_of bundle.now) (V.state vault.old) (K.state out.old) (K.state out.new)) }
+    ensures err { IfErr result (IsCaused (folder_of bundle.now) (V.state vault.old) (V.state vault.new)
+        (K.state out.old) (K.state out.new)) }
+    ensures quiet { IfErr result (λ refusal. LeavesSink refusal (K.state out.old) (K.state out.new)) }
+    ensures files { LeavesFiles (V.state vault.old) (V.state vault.new) }
+    ensures vault { VaultGoesOn (V.state vault.old) (V.state vault.new) }
+    ensures sink { SinkGoesOn (K.state out.old) (K.state out.new) }
 {
     let listing = listing(alloc, bundle, vault)?;
     match out.put(listing.as_slice()) {
@@ -99,17 +80,11 @@ fn check_to<V: Vault, K: Sink>(
 // The listing of the bundle in a folder.
 fn listing<V: Vault>(alloc: Global, bundle: &Text, vault: &mut V) -> Result<Bytes, CheckRefusal>
     ensures ok { IfOk result (λ listing. (rows : List Triple)
-        × IsBundle (vault_at V.tells V.file V.faults V.absences V.longs vault.old) (folder_of bundle.now) 0 rows
+        × IsBundle (V.state vault.old) (folder_of bundle.now) 0 rows
         × AreDeclared rows × (listing ≡ check_listing rows)) }
-    ensures err { IfErr result (IsUnlisted (folder_of bundle.now)
-        (vault_at V.tells V.file V.faults V.absences V.longs vault.old)
-        (vault_at V.tells V.file V.faults V.absences V.longs vault.new)) }
-    ensures files { LeavesFiles
-        (vault_at V.tells V.file V.faults V.absences V.longs vault.old)
-        (vault_at V.tells V.file V.faults V.absences V.longs vault.new) }
-    ensures goes_on { VaultGoesOn
-        (vault_at V.tells V.file V.faults V.absences V.longs vault.old)
-        (vault_at V.tells V.file V.faults V.absences V.longs vault.new) }
+    ensures err { IfErr result (IsUnlisted (folder_of bundle.now) (V.state vault.old) (V.state vault.new)) }
+    ensures files { LeavesFiles (V.state vault.old) (V.state vault.new) }
+    ensures goes_on { VaultGoesOn (V.state vault.old) (V.state vault.new) }
 {
     let store = load(alloc, bundle, vault)?;
     listing_of(alloc, &store)
@@ -117,16 +92,10 @@ fn listing<V: Vault>(alloc: Global, bundle: &Text, vault: &mut V) -> Result<Byte
 
 // The rows of the bundle in a folder.
 fn load<V: Vault>(alloc: Global, bundle: &Text, vault: &mut V) -> Result<Store, LoadFault>
-    ensures ok { IfOk result (IsBundle (vault_at V.tells V.file V.faults V.absences V.longs vault.old) (folder_of bundle.now) 0) }
-    ensures err { IfErr result (IsUnloaded
-        (vault_at V.tells V.file V.faults V.absences V.longs vault.old)
-        (vault_at V.tells V.file V.faults V.absences V.longs vault.new) (folder_of bundle.now) 0) }
-    ensures files { LeavesFiles
-        (vault_at V.tells V.file V.faults V.absences V.longs vault.old)
-        (vault_at V.tells V.file V.faults V.absences V.longs vault.new) }
-    ensures goes_on { VaultGoesOn
-        (vault_at V.tells V.file V.faults V.absences V.longs vault.old)
-        (vault_at V.tells V.file V.faults V.absences V.longs vault.new) }
+    ensures ok { IfOk result (IsBundle (V.state vault.old) (folder_of bundle.now) 0) }
+    ensures err { IfErr result (IsUnloaded (V.state vault.old) (V.state vault.new) (folder_of bundle.now) 0) }
+    ensures files { LeavesFiles (V.state vault.old) (V.state vault.new) }
+    ensures goes_on { VaultGoesOn (V.state vault.old) (V.state vault.new) }
 {
     let folder = Text::from_str(alloc, folder_of(bundle.as_str()))?;
     session_load::bundle(alloc, &folder, 0, vault)

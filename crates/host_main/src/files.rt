@@ -30,7 +30,6 @@ pub struct Rendering {
 impl Rendering {
     ghost use Rattle.std.specs.Prelude.{◌≡◌, ◌++◌, IfOk, IfErr, OnOk, IsTrue};
     ghost use Rattle.lv_outside.specs.Count.{Rose};
-    ghost use Rattle.lv_outside.specs.World.{vault_at};
     ghost use Rattle.host_main.specs.GoesOn.{VaultGoesOn};
     ghost use Rattle.host_main.specs.Files.{rendering, IsFile, AreApart, HoldsAll, HoldsBefore};
 
@@ -57,14 +56,12 @@ impl Rendering {
     /// Writes the three files in order, up to the first that fails.
     pub fn write<V: Vault>(&self, vault: &mut V) -> Result<(), Target>
         requires { AreApart self.now }
-        ensures ok { OnOk result (IsTrue (V.tells vault.old) → HoldsAll self.now (V.file vault.old) (V.file vault.new)) }
+        ensures ok { OnOk result (IsTrue (V.state vault.old).tells → HoldsAll self.now (V.state vault.old).file (V.state vault.new).file) }
         ensures file { IfErr result IsFile }
-        ensures failed { IfErr result (λ _. Rose (V.faults vault.old) (V.faults vault.new)) }
-        ensures goes_on { VaultGoesOn
-            (vault_at V.tells V.file V.faults V.absences V.longs vault.old)
-            (vault_at V.tells V.file V.faults V.absences V.longs vault.new) }
-        ensures err { IfErr result (λ target. IsTrue (V.tells vault.old)
-            → HoldsBefore target self.now (V.file vault.old) (V.file vault.new)) }
+        ensures failed { IfErr result (λ _. Rose (V.state vault.old).faults (V.state vault.new).faults) }
+        ensures goes_on { VaultGoesOn (V.state vault.old) (V.state vault.new) }
+        ensures err { IfErr result (λ target. IsTrue (V.state vault.old).tells
+            → HoldsBefore target self.now (V.state vault.old).file (V.state vault.new).file) }
     {
         if vault.write(self.steps.path.as_slice(), self.steps.bytes.as_slice()) == Put::Failed {
             return Err(Target::Record);

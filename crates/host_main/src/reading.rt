@@ -1,7 +1,7 @@
 ghost use Rattle.std.specs.Prelude.{◌≡◌, ℕ, ◌≤◌, List, length, IfOk, IfErr, IsTrue, Some};
 ghost use Rattle.session_script.specs.Playable.{IsPlayable};
 ghost use Rattle.host_main.specs.Status.{most_session_bytes};
-ghost use Rattle.lv_outside.specs.World.{vault_at, LeavesFiles};
+ghost use Rattle.lv_outside.specs.World.{LeavesFiles};
 ghost use Rattle.session_script.specs.Script.{IsSessionOf};
 ghost use Rattle.host_main.specs.GoesOn.{VaultGoesOn};
 ghost use Rattle.host_main.specs.Render.{HasNoLater, IsRead, IsNoSession, IsUnread};
@@ -17,18 +17,11 @@ const MOST_SESSION_BYTES: u64 = 16_777_216;
 
 /// Reads the session at a path of the vault.
 pub fn read_session<V: Vault>(alloc: Global, path: &Text, vault: &mut V) -> Result<Session, Refusal>
-    ensures ok { IfOk result (λ s. (bytes : List ℕ)
-        × IsRead path.now (vault_at V.tells V.file V.faults V.absences V.longs vault.old) bytes s) }
+    ensures ok { IfOk result (λ s. (bytes : List ℕ) × IsRead path.now (V.state vault.old) bytes s) }
     ensures playable { IfOk result IsPlayable }
-    ensures err { IfErr result (IsUnread path.now
-        (vault_at V.tells V.file V.faults V.absences V.longs vault.old)
-        (vault_at V.tells V.file V.faults V.absences V.longs vault.new)) }
-    ensures files { LeavesFiles
-        (vault_at V.tells V.file V.faults V.absences V.longs vault.old)
-        (vault_at V.tells V.file V.faults V.absences V.longs vault.new) }
-    ensures goes_on { VaultGoesOn
-        (vault_at V.tells V.file V.faults V.absences V.longs vault.old)
-        (vault_at V.tells V.file V.faults V.absences V.longs vault.new) }
+    ensures err { IfErr result (IsUnread path.now (V.state vault.old) (V.state vault.new)) }
+    ensures files { LeavesFiles (V.state vault.old) (V.state vault.new) }
+    ensures goes_on { VaultGoesOn (V.state vault.old) (V.state vault.new) }
 {
     let bytes = fetch(alloc, path, vault)?;
     let session = session_in(alloc, bytes.as_slice())?;
@@ -53,16 +46,10 @@ fn session_in(alloc: Global, bytes: &[u8]) -> Result<Session, Refusal>
 // The whole file of a session.
 fn fetch<V: Vault>(alloc: Global, path: &Text, vault: &mut V) -> Result<Bytes, Refusal>
     ensures short { IfOk result (λ bytes. length bytes ≤ most_session_bytes) }
-    ensures ok { IfOk result (λ bytes. IsTrue (V.tells vault.old) → V.file vault.old path.now ≡ Some bytes) }
-    ensures err { IfErr result (IsUnread path.now
-        (vault_at V.tells V.file V.faults V.absences V.longs vault.old)
-        (vault_at V.tells V.file V.faults V.absences V.longs vault.new)) }
-    ensures files { LeavesFiles
-        (vault_at V.tells V.file V.faults V.absences V.longs vault.old)
-        (vault_at V.tells V.file V.faults V.absences V.longs vault.new) }
-    ensures goes_on { VaultGoesOn
-        (vault_at V.tells V.file V.faults V.absences V.longs vault.old)
-        (vault_at V.tells V.file V.faults V.absences V.longs vault.new) }
+    ensures ok { IfOk result (λ bytes. IsTrue (V.state vault.old).tells → (V.state vault.old).file path.now ≡ Some bytes) }
+    ensures err { IfErr result (IsUnread path.now (V.state vault.old) (V.state vault.new)) }
+    ensures files { LeavesFiles (V.state vault.old) (V.state vault.new) }
+    ensures goes_on { VaultGoesOn (V.state vault.old) (V.state vault.new) }
 {
     let mut bytes = Bytes::new(alloc);
     match vault.read(path.as_bytes(), MOST_SESSION_BYTES, &mut bytes) {

@@ -2,7 +2,7 @@ ghost use Rattle.std.specs.Prelude.{◌≡◌, ℕ, List, IfOk, IfErr, OnOk};
 ghost use Rattle.session_script.specs.declared.session.Session.{Session};
 ghost use Rattle.session_script.specs.Playable.{IsPlayable};
 ghost use Rattle.replay_core.specs.Play.{meaning_of};
-ghost use Rattle.lv_outside.specs.World.{vault_at, sink_at, LeavesFiles};
+ghost use Rattle.lv_outside.specs.World.{LeavesFiles};
 ghost use Rattle.host_main.specs.Render.{rendering_of, AnswersRender, Explains, IsDone, IsCaused, IsRead, IsUnread, IsRendered, IsUnrendered, LeavesSink};
 ghost use Rattle.host_main.specs.Files.{AreApart};
 ghost use Rattle.host_main.specs.GoesOn.{VaultGoesOn, SinkGoesOn};
@@ -31,16 +31,10 @@ pub fn run_render<V: Vault, K: Sink, C: Codes>(
     out: &mut K,
     codes: &C,
 ) -> u8
-    ensures answers { AnswersRender
-        (meaning_of C.make_of C.Front.activate_of C.Front.run_of C.Front.deactivate_of)
-        session.now name.now
-        (vault_at V.tells V.file V.faults V.absences V.longs vault.old)
-        (vault_at V.tells V.file V.faults V.absences V.longs vault.new)
-        (sink_at K.tells K.taken K.faults out.old) (sink_at K.tells K.taken K.faults out.new) result }
-    ensures vault { VaultGoesOn
-        (vault_at V.tells V.file V.faults V.absences V.longs vault.old)
-        (vault_at V.tells V.file V.faults V.absences V.longs vault.new) }
-    ensures sink { SinkGoesOn (sink_at K.tells K.taken K.faults out.old) (sink_at K.tells K.taken K.faults out.new) }
+    ensures answers { AnswersRender (meaning_of C.make_of C.Front.activate_of C.Front.run_of C.Front.deactivate_of)
+        session.now name.now (V.state vault.old) (V.state vault.new) (K.state out.old) (K.state out.new) result }
+    ensures vault { VaultGoesOn (V.state vault.old) (V.state vault.new) }
+    ensures sink { SinkGoesOn (K.state out.old) (K.state out.new) }
 {
     answer(alloc, session, name, vault, out, codes)
 }
@@ -54,16 +48,10 @@ fn answer<V: Vault, K: Sink, C: Codes>(
     out: &mut K,
     codes: &C,
 ) -> u8
-    ensures explained { Explains
-        (meaning_of C.make_of C.Front.activate_of C.Front.run_of C.Front.deactivate_of)
-        session.now name.now
-        (vault_at V.tells V.file V.faults V.absences V.longs vault.old)
-        (vault_at V.tells V.file V.faults V.absences V.longs vault.new)
-        (sink_at K.tells K.taken K.faults out.old) (sink_at K.tells K.taken K.faults out.new) result }
-    ensures vault { VaultGoesOn
-        (vault_at V.tells V.file V.faults V.absences V.longs vault.old)
-        (vault_at V.tells V.file V.faults V.absences V.longs vault.new) }
-    ensures sink { SinkGoesOn (sink_at K.tells K.taken K.faults out.old) (sink_at K.tells K.taken K.faults out.new) }
+    ensures explained { Explains (meaning_of C.make_of C.Front.activate_of C.Front.run_of C.Front.deactivate_of)
+        session.now name.now (V.state vault.old) (V.state vault.new) (K.state out.old) (K.state out.new) result }
+    ensures vault { VaultGoesOn (V.state vault.old) (V.state vault.new) }
+    ensures sink { SinkGoesOn (K.state out.old) (K.state out.new) }
 {
     match render_to(alloc, session, name, vault, out, codes) {
         Ok(()) => DONE,
@@ -82,24 +70,13 @@ fn render_to<V: Vault, K: Sink, C: Codes>(
     out: &mut K,
     codes: &C,
 ) -> Result<(), Refusal>
-    ensures ok { OnOk result (IsDone
-        (meaning_of C.make_of C.Front.activate_of C.Front.run_of C.Front.deactivate_of)
-        session.now name.now
-        (vault_at V.tells V.file V.faults V.absences V.longs vault.old)
-        (vault_at V.tells V.file V.faults V.absences V.longs vault.new)
-        (sink_at K.tells K.taken K.faults out.old) (sink_at K.tells K.taken K.faults out.new)) }
-    ensures err { IfErr result (IsCaused
-        (meaning_of C.make_of C.Front.activate_of C.Front.run_of C.Front.deactivate_of)
-        session.now name.now
-        (vault_at V.tells V.file V.faults V.absences V.longs vault.old)
-        (vault_at V.tells V.file V.faults V.absences V.longs vault.new)
-        (sink_at K.tells K.taken K.faults out.old) (sink_at K.tells K.taken K.faults out.new)) }
-    ensures quiet { IfErr result (λ refusal. LeavesSink refusal
-        (sink_at K.tells K.taken K.faults out.old) (sink_at K.tells K.taken K.faults out.new)) }
-    ensures vault { VaultGoesOn
-        (vault_at V.tells V.file V.faults V.absences V.longs vault.old)
-        (vault_at V.tells V.file V.faults V.absences V.longs vault.new) }
-    ensures sink { SinkGoesOn (sink_at K.tells K.taken K.faults out.old) (sink_at K.tells K.taken K.faults out.new) }
+    ensures ok { OnOk result (IsDone (meaning_of C.make_of C.Front.activate_of C.Front.run_of C.Front.deactivate_of)
+        session.now name.now (V.state vault.old) (V.state vault.new) (K.state out.old) (K.state out.new)) }
+    ensures err { IfErr result (IsCaused (meaning_of C.make_of C.Front.activate_of C.Front.run_of C.Front.deactivate_of)
+        session.now name.now (V.state vault.old) (V.state vault.new) (K.state out.old) (K.state out.new)) }
+    ensures quiet { IfErr result (λ refusal. LeavesSink refusal (K.state out.old) (K.state out.new)) }
+    ensures vault { VaultGoesOn (V.state vault.old) (V.state vault.new) }
+    ensures sink { SinkGoesOn (K.state out.old) (K.state out.new) }
 {
     let summary = render_files(alloc, session, name, vault, codes)?;
     match out.put(summary.as_slice()) {
@@ -117,18 +94,12 @@ fn render_files<V: Vault, C: Codes>(
     codes: &C,
 ) -> Result<Bytes, Refusal>
     ensures ok { IfOk result (λ summary. IsRendered
-        (meaning_of C.make_of C.Front.activate_of C.Front.run_of C.Front.deactivate_of)
-        path.now name.now
-        (vault_at V.tells V.file V.faults V.absences V.longs vault.old)
-        (vault_at V.tells V.file V.faults V.absences V.longs vault.new) summary) }
+        (meaning_of C.make_of C.Front.activate_of C.Front.run_of C.Front.deactivate_of) path.now name.now
+        (V.state vault.old) (V.state vault.new) summary) }
     ensures err { IfErr result (IsUnrendered
-        (meaning_of C.make_of C.Front.activate_of C.Front.run_of C.Front.deactivate_of)
-        path.now name.now
-        (vault_at V.tells V.file V.faults V.absences V.longs vault.old)
-        (vault_at V.tells V.file V.faults V.absences V.longs vault.new)) }
-    ensures goes_on { VaultGoesOn
-        (vault_at V.tells V.file V.faults V.absences V.longs vault.old)
-        (vault_at V.tells V.file V.faults V.absences V.longs vault.new) }
+        (meaning_of C.make_of C.Front.activate_of C.Front.run_of C.Front.deactivate_of) path.now name.now
+        (V.state vault.old) (V.state vault.new)) }
+    ensures goes_on { VaultGoesOn (V.state vault.old) (V.state vault.new) }
 {
     let rendering = rendering_at(alloc, path, name, vault, codes)?;
     match rendering.write(vault) {
@@ -145,20 +116,13 @@ fn rendering_at<V: Vault, C: Codes>(
     vault: &mut V,
     codes: &C,
 ) -> Result<Rendering, Refusal>
-    ensures ok { IfOk result (λ made. (bytes : List ℕ) × (s : Session)
-        × IsRead path.now (vault_at V.tells V.file V.faults V.absences V.longs vault.old) bytes s
+    ensures ok { IfOk result (λ made. (bytes : List ℕ) × (s : Session) × IsRead path.now (V.state vault.old) bytes s
         × (made ≡ rendering_of
         (meaning_of C.make_of C.Front.activate_of C.Front.run_of C.Front.deactivate_of) name.now s)) }
     ensures apart { IfOk result AreApart }
-    ensures err { IfErr result (IsUnread path.now
-        (vault_at V.tells V.file V.faults V.absences V.longs vault.old)
-        (vault_at V.tells V.file V.faults V.absences V.longs vault.new)) }
-    ensures files { LeavesFiles
-        (vault_at V.tells V.file V.faults V.absences V.longs vault.old)
-        (vault_at V.tells V.file V.faults V.absences V.longs vault.new) }
-    ensures goes_on { VaultGoesOn
-        (vault_at V.tells V.file V.faults V.absences V.longs vault.old)
-        (vault_at V.tells V.file V.faults V.absences V.longs vault.new) }
+    ensures err { IfErr result (IsUnread path.now (V.state vault.old) (V.state vault.new)) }
+    ensures files { LeavesFiles (V.state vault.old) (V.state vault.new) }
+    ensures goes_on { VaultGoesOn (V.state vault.old) (V.state vault.new) }
 {
     let session = read_session(alloc, path, vault)?;
     let rendering = rendering_for(alloc, name, &session, codes)?;
@@ -174,8 +138,7 @@ fn rendering_for<C: Codes>(
 ) -> Result<Rendering, NoMemory>
     requires { IsPlayable session.now }
     ensures value { IfOk result (λ made. made ≡ rendering_of
-        (meaning_of C.make_of C.Front.activate_of C.Front.run_of C.Front.deactivate_of)
-        name.now session.now) }
+        (meaning_of C.make_of C.Front.activate_of C.Front.run_of C.Front.deactivate_of) name.now session.now) }
     ensures apart { IfOk result AreApart }
 {
     let outcome = replay_core::render(alloc, session, codes)?;

@@ -1,6 +1,6 @@
 ghost use Rattle.std.specs.Prelude.{◌≡◌, ◌++◌, ℕ, List};
 ghost use Rattle.host_main.specs.Status.{line_of, usage_line, no_memory_line, rule_end, limit_front};
-ghost use Rattle.lv_outside.specs.World.{sink_at, IsSaid};
+ghost use Rattle.lv_outside.specs.World.{IsSaid};
 ghost use Rattle.host_main.specs.GoesOn.{SinkGoesOn};
 
 use crate::refusal::{Refusal, Target};
@@ -16,8 +16,8 @@ const SCRIPT_LINE: &str = "lv2fx: 7 script line ";
 
 /// Puts the line that lists the commands.
 pub fn say_usage<K: Sink>(out: &mut K)
-    ensures said { IsSaid (sink_at K.tells K.taken K.faults out.old) (sink_at K.tells K.taken K.faults out.new) usage_line }
-    ensures goes_on { SinkGoesOn (sink_at K.tells K.taken K.faults out.old) (sink_at K.tells K.taken K.faults out.new) }
+    ensures said { IsSaid (K.state out.old) (K.state out.new) usage_line }
+    ensures goes_on { SinkGoesOn (K.state out.old) (K.state out.new) }
 {
     put_line(out, USAGE, "", "");
 }
@@ -25,9 +25,8 @@ pub fn say_usage<K: Sink>(out: &mut K)
 /// Puts the line of a refusal of `render SESSION NAME` on the sink, up to the first piece that fails. It takes no
 /// memory, so it never changes the answer.
 pub fn say<K: Sink>(refusal: Refusal, session: &Text, name: &Text, out: &mut K)
-    ensures said { IsSaid (sink_at K.tells K.taken K.faults out.old) (sink_at K.tells K.taken K.faults out.new)
-        (line_of session.now name.now refusal) }
-    ensures goes_on { SinkGoesOn (sink_at K.tells K.taken K.faults out.old) (sink_at K.tells K.taken K.faults out.new) }
+    ensures said { IsSaid (K.state out.old) (K.state out.new) (line_of session.now name.now refusal) }
+    ensures goes_on { SinkGoesOn (K.state out.old) (K.state out.new) }
 {
     let mut digits = Buffer::new();
     match refusal {
@@ -49,16 +48,16 @@ pub fn say<K: Sink>(refusal: Refusal, session: &Text, name: &Text, out: &mut K)
 
 /// Puts the line of a want of memory.
 pub(crate) fn say_no_memory<K: Sink>(out: &mut K)
-    ensures said { IsSaid (sink_at K.tells K.taken K.faults out.old) (sink_at K.tells K.taken K.faults out.new) no_memory_line }
-    ensures goes_on { SinkGoesOn (sink_at K.tells K.taken K.faults out.old) (sink_at K.tells K.taken K.faults out.new) }
+    ensures said { IsSaid (K.state out.old) (K.state out.new) no_memory_line }
+    ensures goes_on { SinkGoesOn (K.state out.old) (K.state out.new) }
 {
     put_line(out, "lv2fx: 14 no memory\n", "", "");
 }
 
 fn say_write_failed<K: Sink>(target: Target, name: &Text, out: &mut K)
-    ensures said { (session : List ℕ) → IsSaid (sink_at K.tells K.taken K.faults out.old) (sink_at K.tells K.taken K.faults out.new)
+    ensures said { (session : List ℕ) → IsSaid (K.state out.old) (K.state out.new)
         (line_of session name.now (Refusal.WriteFailed target)) }
-    ensures goes_on { SinkGoesOn (sink_at K.tells K.taken K.faults out.old) (sink_at K.tells K.taken K.faults out.new) }
+    ensures goes_on { SinkGoesOn (K.state out.old) (K.state out.new) }
 {
     let front = "lv2fx: 4 write failed ";
     match target {
@@ -108,18 +107,16 @@ fn limit_front(which: Limit) -> &'static str
 }
 
 pub(crate) fn put_line<K: Sink>(out: &mut K, front: &str, middle: &str, end: &str)
-    ensures said { IsSaid (sink_at K.tells K.taken K.faults out.old) (sink_at K.tells K.taken K.faults out.new)
-        (front.now ++ (middle.now ++ end.now)) }
-    ensures goes_on { SinkGoesOn (sink_at K.tells K.taken K.faults out.old) (sink_at K.tells K.taken K.faults out.new) }
+    ensures said { IsSaid (K.state out.old) (K.state out.new) (front.now ++ (middle.now ++ end.now)) }
+    ensures goes_on { SinkGoesOn (K.state out.old) (K.state out.new) }
 {
     put_pieces(out, front.as_bytes(), middle.as_bytes(), end.as_bytes());
 }
 
 // Puts three pieces, up to the first that fails.
 pub(crate) fn put_pieces<K: Sink>(out: &mut K, front: &[u8], middle: &[u8], end: &[u8])
-    ensures said { IsSaid (sink_at K.tells K.taken K.faults out.old) (sink_at K.tells K.taken K.faults out.new)
-        (front.now ++ (middle.now ++ end.now)) }
-    ensures goes_on { SinkGoesOn (sink_at K.tells K.taken K.faults out.old) (sink_at K.tells K.taken K.faults out.new) }
+    ensures said { IsSaid (K.state out.old) (K.state out.new) (front.now ++ (middle.now ++ end.now)) }
+    ensures goes_on { SinkGoesOn (K.state out.old) (K.state out.new) }
 {
     if out.put(front) == Put::Failed {
         return;

@@ -3,7 +3,7 @@ ghost use Rattle.host_main.specs.Status.{usage_line, no_memory_line};
 ghost use Rattle.host_main.specs.GoesOn.{VaultGoesOn, SinkGoesOn};
 ghost use Rattle.host_main.specs.Words.{IsCheck, IsRender, IsOfNoForm};
 ghost use Rattle.replay_core.specs.Play.{meaning_of};
-ghost use Rattle.lv_outside.specs.World.{vault_at, sink_at, LeavesFiles, IsSaid};
+ghost use Rattle.lv_outside.specs.World.{LeavesFiles, IsSaid};
 ghost use Rattle.host_main.specs.Check.{folder_of, AnswersCheck};
 ghost use Rattle.host_main.specs.Render.{AnswersRender};
 
@@ -30,28 +30,18 @@ pub fn host_main<V: Vault, K: Sink, C: Codes + Sync, G: Gate + Sync>(
     codes: &C,
     gate: &G,
 ) -> u8
-    ensures check { (bundle : List ℕ) → IsCheck words.now bundle → AnswersCheck (folder_of bundle)
-        (vault_at V.tells V.file V.faults V.absences V.longs vault.old)
-        (vault_at V.tells V.file V.faults V.absences V.longs vault.new)
-        (sink_at K.tells K.taken K.faults out.old) (sink_at K.tells K.taken K.faults out.new) result }
+    ensures check { (bundle : List ℕ) → IsCheck words.now bundle → AnswersCheck (folder_of bundle) (V.state vault.old)
+        (V.state vault.new) (K.state out.old) (K.state out.new) result }
     ensures render { (session name : List ℕ) → IsRender words.now session name → AnswersRender
-        (meaning_of C.make_of C.Front.activate_of C.Front.run_of C.Front.deactivate_of)
-        session name
-        (vault_at V.tells V.file V.faults V.absences V.longs vault.old)
-        (vault_at V.tells V.file V.faults V.absences V.longs vault.new)
-        (sink_at K.tells K.taken K.faults out.old) (sink_at K.tells K.taken K.faults out.new) result }
+        (meaning_of C.make_of C.Front.activate_of C.Front.run_of C.Front.deactivate_of) session name (V.state vault.old)
+        (V.state vault.new) (K.state out.old) (K.state out.new) result }
     ensures usage { IsOfNoForm words.now → result ≡ 1 }
-    ensures usage_said { IsOfNoForm words.now → IsSaid
-        (sink_at K.tells K.taken K.faults out.old) (sink_at K.tells K.taken K.faults out.new) usage_line }
-    ensures usage_files { IsOfNoForm words.now → LeavesFiles
-        (vault_at V.tells V.file V.faults V.absences V.longs vault.old)
-        (vault_at V.tells V.file V.faults V.absences V.longs vault.new) }
+    ensures usage_said { IsOfNoForm words.now → IsSaid (K.state out.old) (K.state out.new) usage_line }
+    ensures usage_files { IsOfNoForm words.now → LeavesFiles (V.state vault.old) (V.state vault.new) }
 
     // Whatever the words are, what was told stays told, and no count falls.
-    ensures vault { VaultGoesOn
-        (vault_at V.tells V.file V.faults V.absences V.longs vault.old)
-        (vault_at V.tells V.file V.faults V.absences V.longs vault.new) }
-    ensures sink { SinkGoesOn (sink_at K.tells K.taken K.faults out.old) (sink_at K.tells K.taken K.faults out.new) }
+    ensures vault { VaultGoesOn (V.state vault.old) (V.state vault.new) }
+    ensures sink { SinkGoesOn (K.state out.old) (K.state out.new) }
 {
     let _gate = gate;
     match command_of(words) {
@@ -70,8 +60,8 @@ pub fn host_main<V: Vault, K: Sink, C: Codes + Sync, G: Gate + Sync>(
 /// and gives 14.
 pub fn without_words<K: Sink>(out: &mut K) -> u8
     ensures status { result ≡ 14 }
-    ensures said { IsSaid (sink_at K.tells K.taken K.faults out.old) (sink_at K.tells K.taken K.faults out.new) no_memory_line }
-    ensures sink { SinkGoesOn (sink_at K.tells K.taken K.faults out.old) (sink_at K.tells K.taken K.faults out.new) }
+    ensures said { IsSaid (K.state out.old) (K.state out.new) no_memory_line }
+    ensures sink { SinkGoesOn (K.state out.old) (K.state out.new) }
 {
     say_no_memory(out);
     Refusal::NoMemory.status()

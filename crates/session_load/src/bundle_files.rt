@@ -1,5 +1,5 @@
 ghost use Rattle.std.specs.Prelude.{◌≡◌, ◌≤◌, ℕ, List, [], true, All, IfOk, IfErr, OnOk, IsTrue};
-ghost use Rattle.lv_outside.specs.World.{vault_at, LeavesFiles};
+ghost use Rattle.lv_outside.specs.World.{LeavesFiles};
 ghost use Rattle.triple_store.specs.declared.term.Triple.{Triple};
 ghost use Rattle.turtle_document.specs.Answer.Outcome.{document};
 ghost use Rattle.turtle_document.specs.Numbers.{HaveFewNumbers};
@@ -37,18 +37,13 @@ pub fn bundle<V: Vault>(
     number: u32,
     vault: &mut V,
 ) -> Result<Store, LoadFault>
-    ensures ok { IfOk result (IsBundle
-        (vault_at V.tells V.file V.faults V.absences V.longs vault.old) path.now number) }
-    ensures err { IfErr result (IsUnloaded
-        (vault_at V.tells V.file V.faults V.absences V.longs vault.old)
-        (vault_at V.tells V.file V.faults V.absences V.longs vault.new) path.now number) }
-    ensures files { LeavesFiles
-        (vault_at V.tells V.file V.faults V.absences V.longs vault.old)
-        (vault_at V.tells V.file V.faults V.absences V.longs vault.new) }
-    ensures known { IsTrue (V.tells vault.old) → IsTrue (V.tells vault.new) }
-    ensures later { V.faults vault.old ≤ V.faults vault.new }
-    ensures absences { V.absences vault.old ≤ V.absences vault.new }
-    ensures longs { V.longs vault.old ≤ V.longs vault.new }
+    ensures ok { IfOk result (IsBundle (V.state vault.old) path.now number) }
+    ensures err { IfErr result (IsUnloaded (V.state vault.old) (V.state vault.new) path.now number) }
+    ensures files { LeavesFiles (V.state vault.old) (V.state vault.new) }
+    ensures known { IsTrue (V.state vault.old).tells → IsTrue (V.state vault.new).tells }
+    ensures later { (V.state vault.old).faults ≤ (V.state vault.new).faults }
+    ensures absences { (V.state vault.old).absences ≤ (V.state vault.new).absences }
+    ensures longs { (V.state vault.old).longs ≤ (V.state vault.new).longs }
 {
     let folder = Folder {
         alloc,
@@ -90,12 +85,10 @@ impl<'a> Folder<'a> {
     /// Reads the manifest, and then the files that it names.
     fn read_bundle<V: Vault>(&self, vault: &mut V, store: &mut Store) -> Result<(), LoadFault>
         requires { store.old ≡ [] }
-        ensures ok { OnOk result (HasRows (vault_at V.tells V.file V.faults V.absences V.longs vault.old)
-            (place self.now.number self.now.path.now) store.new) }
-        ensures err { IfErr result (IsUnloaded (vault_at V.tells V.file V.faults V.absences V.longs vault.old)
-            (vault_at V.tells V.file V.faults V.absences V.longs vault.new) self.now.path.now self.now.number) }
-        ensures later { IsLater (vault_at V.tells V.file V.faults V.absences V.longs vault.old)
-            (vault_at V.tells V.file V.faults V.absences V.longs vault.new) }
+        ensures ok { OnOk result (HasRows (V.state vault.old) (place self.now.number self.now.path.now) store.new) }
+        ensures err { IfErr result (IsUnloaded (V.state vault.old)
+            (V.state vault.new) self.now.path.now self.now.number) }
+        ensures later { IsLater (V.state vault.old) (V.state vault.new) }
     {
         self.read_manifest(vault, store)?;
         let files = files_named(self.alloc, self.number, store)?;
@@ -105,13 +98,11 @@ impl<'a> Folder<'a> {
 
     fn read_manifest<V: Vault>(&self, vault: &mut V, store: &mut Store) -> Result<(), LoadFault>
         requires { HaveFewNumbers store.old }
-        ensures ok { OnOk result (Adds (vault_at V.tells V.file V.faults V.absences V.longs vault.old)
+        ensures ok { OnOk result (Adds (V.state vault.old)
             (place self.now.number self.now.path.now) manifest store.old store.new) }
-        ensures err { IfErr result (IsRefused (vault_at V.tells V.file V.faults V.absences V.longs vault.old)
-            (vault_at V.tells V.file V.faults V.absences V.longs vault.new)
+        ensures err { IfErr result (IsRefused (V.state vault.old) (V.state vault.new)
             (place self.now.number self.now.path.now) manifest store.old) }
-        ensures later { IsLater (vault_at V.tells V.file V.faults V.absences V.longs vault.old)
-            (vault_at V.tells V.file V.faults V.absences V.longs vault.new) }
+        ensures later { IsLater (V.state vault.old) (V.state vault.new) }
         ensures few { HaveFewNumbers store.new }
     {
         let manifest = FileName::manifest(self.alloc)?;
@@ -126,13 +117,11 @@ impl<'a> Folder<'a> {
         store: &mut Store,
     ) -> Result<(), LoadFault>
         requires { HaveFewNumbers store.old }
-        ensures ok { OnOk result (AddAll (vault_at V.tells V.file V.faults V.absences V.longs vault.old)
+        ensures ok { OnOk result (AddAll (V.state vault.old)
             (place self.now.number self.now.path.now) names.now store.old store.new) }
-        ensures err { IfErr result (StopsAt (vault_at V.tells V.file V.faults V.absences V.longs vault.old)
-            (vault_at V.tells V.file V.faults V.absences V.longs vault.new)
+        ensures err { IfErr result (StopsAt (V.state vault.old) (V.state vault.new)
             (place self.now.number self.now.path.now) names.now store.old) }
-        ensures later { IsLater (vault_at V.tells V.file V.faults V.absences V.longs vault.old)
-            (vault_at V.tells V.file V.faults V.absences V.longs vault.new) }
+        ensures later { IsLater (V.state vault.old) (V.state vault.new) }
         ensures few { HaveFewNumbers store.new }
     {
         for name in names {
@@ -149,13 +138,11 @@ impl<'a> Folder<'a> {
         store: &mut Store,
     ) -> Result<(), LoadFault>
         requires { HaveFewNumbers store.old }
-        ensures ok { OnOk result (Adds (vault_at V.tells V.file V.faults V.absences V.longs vault.old)
+        ensures ok { OnOk result (Adds (V.state vault.old)
             (place self.now.number self.now.path.now) name.now store.old store.new) }
-        ensures err { IfErr result (IsRefused (vault_at V.tells V.file V.faults V.absences V.longs vault.old)
-            (vault_at V.tells V.file V.faults V.absences V.longs vault.new)
+        ensures err { IfErr result (IsRefused (V.state vault.old) (V.state vault.new)
             (place self.now.number self.now.path.now) name.now store.old) }
-        ensures later { IsLater (vault_at V.tells V.file V.faults V.absences V.longs vault.old)
-            (vault_at V.tells V.file V.faults V.absences V.longs vault.new) }
+        ensures later { IsLater (V.state vault.old) (V.state vault.new) }
         ensures few { HaveFewNumbers store.new }
     {
         let path = self.path_of(name)?;

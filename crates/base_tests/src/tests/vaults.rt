@@ -9,19 +9,19 @@ use std::test::Fail;
 
 /// What a caller learns of any vault: where no fault comes and memory is there, known contents determine the answer.
 fn sure_read<V: Vault>(vault: &mut V, path: &[u8], most: u64, into: &mut Bytes) -> Fetch
-    ensures absent { IsTrue (V.tells vault.old) → (Rose (V.faults vault.old) (V.faults vault.new) → ⊥) → result ≢ Fetch.NoMemory
-        → V.file vault.old path.now ≡ None → result ≡ Fetch.Absent }
-    ensures long { IsTrue (V.tells vault.old) → (Rose (V.faults vault.old) (V.faults vault.new) → ⊥) → result ≢ Fetch.NoMemory
-        → (bytes : List ℕ) → V.file vault.old path.now ≡ Some bytes → most < length bytes → result ≡ Fetch.TooLong }
-    ensures got { IsTrue (V.tells vault.old) → (Rose (V.faults vault.old) (V.faults vault.new) → ⊥) → result ≢ Fetch.NoMemory
-        → (bytes : List ℕ) → V.file vault.old path.now ≡ Some bytes → length bytes ≤ most → result ≡ Fetch.Got }
+    ensures absent { IsTrue (V.state vault.old).tells → (Rose (V.state vault.old).faults (V.state vault.new).faults → ⊥) → result ≢ Fetch.NoMemory
+        → (V.state vault.old).file path.now ≡ None → result ≡ Fetch.Absent }
+    ensures long { IsTrue (V.state vault.old).tells → (Rose (V.state vault.old).faults (V.state vault.new).faults → ⊥) → result ≢ Fetch.NoMemory
+        → (bytes : List ℕ) → (V.state vault.old).file path.now ≡ Some bytes → most < length bytes → result ≡ Fetch.TooLong }
+    ensures got { IsTrue (V.state vault.old).tells → (Rose (V.state vault.old).faults (V.state vault.new).faults → ⊥) → result ≢ Fetch.NoMemory
+        → (bytes : List ℕ) → (V.state vault.old).file path.now ≡ Some bytes → length bytes ≤ most → result ≡ Fetch.Got }
 {
     vault.read(path, most, into)
 }
 
 /// A fault in one of several calls shows in the count after all of them.
 fn two_writes<V: Vault>(vault: &mut V, path: &[u8], bytes: &[u8]) -> bool
-    ensures { result ≡ false → Rose (V.faults vault.old) (V.faults vault.new) }
+    ensures { result ≡ false → Rose (V.state vault.old).faults (V.state vault.new).faults }
 {
     let first = vault.write(path, bytes);
     let second = vault.write(path, bytes);

@@ -1,5 +1,5 @@
 ghost use Rattle.host_main.specs.CheckStatus.{check_line, load_line, undeclared_line, turtle_at, turtle_line};
-ghost use Rattle.lv_outside.specs.World.{sink_at, IsSaid};
+ghost use Rattle.lv_outside.specs.World.{IsSaid};
 ghost use Rattle.host_main.specs.GoesOn.{SinkGoesOn};
 
 use crate::checking::refusal::CheckRefusal;
@@ -14,9 +14,8 @@ use turtle_read::TurtleFault;
 /// Puts the line of a refusal of `check BUNDLE` on the sink, up to the first piece that fails. It
 /// takes no memory, so it never changes the answer.
 pub fn say<K: Sink>(refusal: &CheckRefusal, out: &mut K)
-    ensures said { IsSaid (sink_at K.tells K.taken K.faults out.old) (sink_at K.tells K.taken K.faults out.new)
-        (check_line refusal.now) }
-    ensures goes_on { SinkGoesOn (sink_at K.tells K.taken K.faults out.old) (sink_at K.tells K.taken K.faults out.new) }
+    ensures said { IsSaid (K.state out.old) (K.state out.new) (check_line refusal.now) }
+    ensures goes_on { SinkGoesOn (K.state out.old) (K.state out.new) }
 {
     match refusal {
         CheckRefusal::Load(fault) => say_load(fault, out),
@@ -27,9 +26,8 @@ pub fn say<K: Sink>(refusal: &CheckRefusal, out: &mut K)
 
 // The line of a bundle that can't be loaded.
 fn say_load<K: Sink>(fault: &LoadFault, out: &mut K)
-    ensures said { IsSaid (sink_at K.tells K.taken K.faults out.old) (sink_at K.tells K.taken K.faults out.new)
-        (load_line fault.now) }
-    ensures goes_on { SinkGoesOn (sink_at K.tells K.taken K.faults out.old) (sink_at K.tells K.taken K.faults out.new) }
+    ensures said { IsSaid (K.state out.old) (K.state out.new) (load_line fault.now) }
+    ensures goes_on { SinkGoesOn (K.state out.old) (K.state out.new) }
 {
     match fault {
         LoadFault::Missing(path) => put_line(out, "lv2fx: 2 missing ", path.as_str(), "\n"),
@@ -44,9 +42,8 @@ fn say_load<K: Sink>(fault: &LoadFault, out: &mut K)
 
 // The line of a file that is no document.
 fn say_turtle<K: Sink>(path: &Text, fault: TurtleFault, out: &mut K)
-    ensures said { IsSaid (sink_at K.tells K.taken K.faults out.old) (sink_at K.tells K.taken K.faults out.new)
-        (turtle_line path.now fault) }
-    ensures goes_on { SinkGoesOn (sink_at K.tells K.taken K.faults out.old) (sink_at K.tells K.taken K.faults out.new) }
+    ensures said { IsSaid (K.state out.old) (K.state out.new) (turtle_line path.now fault) }
+    ensures goes_on { SinkGoesOn (K.state out.old) (K.state out.new) }
 {
     match fault {
         TurtleFault::Lex(LexFault::NotUtf8(at)) => say_at(path, at, " utf8\n", out),
@@ -62,9 +59,8 @@ fn say_turtle<K: Sink>(path: &Text, fault: TurtleFault, out: &mut K)
 }
 
 fn say_at<K: Sink>(path: &Text, at: usize, kind: &str, out: &mut K)
-    ensures said { IsSaid (sink_at K.tells K.taken K.faults out.old) (sink_at K.tells K.taken K.faults out.new)
-        (turtle_at path.now at kind.now) }
-    ensures goes_on { SinkGoesOn (sink_at K.tells K.taken K.faults out.old) (sink_at K.tells K.taken K.faults out.new) }
+    ensures said { IsSaid (K.state out.old) (K.state out.new) (turtle_at path.now at kind.now) }
+    ensures goes_on { SinkGoesOn (K.state out.old) (K.state out.new) }
 {
     if out.put("lv2fx: 5 turtle ".as_bytes()) == Put::Failed {
         return;
@@ -78,9 +74,8 @@ fn say_at<K: Sink>(path: &Text, at: usize, kind: &str, out: &mut K)
 
 // The line of a plug-in whose declaration breaks a rule.
 fn say_undeclared<K: Sink>(uri: &Text, rule: &Bytes, out: &mut K)
-    ensures said { IsSaid (sink_at K.tells K.taken K.faults out.old) (sink_at K.tells K.taken K.faults out.new)
-        (undeclared_line uri.now rule.now) }
-    ensures goes_on { SinkGoesOn (sink_at K.tells K.taken K.faults out.old) (sink_at K.tells K.taken K.faults out.new) }
+    ensures said { IsSaid (K.state out.old) (K.state out.new) (undeclared_line uri.now rule.now) }
+    ensures goes_on { SinkGoesOn (K.state out.old) (K.state out.new) }
 {
     if out.put("lv2fx: 6 plugin ".as_bytes()) == Put::Failed {
         return;

@@ -1,11 +1,10 @@
-use Rattle.lv_outside.specs.World.{sink_at}
 use Rattle.host_main.proofs.Answers.{explained}
 use Rattle.host_main.proofs.GoesOn.{sink_then}
 use Rattle.host_main.proofs.rendering.answer.Goals as goal
 
 pub returns-in-Err-clause-explained : goal.returns-in-Err-clause-explained
 returns-in-Err-clause-explained g c =
-    let sink = sink_at g.K.Sink.tells g.K.Sink.taken g.K.Sink.faults in
+    let sink = g.K.Sink.state in
     explained _ _ _ _ _ (sink c.args.out.now) (sink c.render_to.new.out) (sink c.say.new.out) c.in-Err.refusal _
     c.status.ensures c.in-Err.ensures.err c.in-Err.ensures.quiet c.say.ensures.said c.say.ensures.goes_on.faults
 

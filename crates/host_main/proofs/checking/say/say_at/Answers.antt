@@ -1,12 +1,11 @@
 use Rattle.std.proofs.Common.{◌≡◌, rules, codes}
-use Rattle.lv_outside.specs.World.{sink_at}
 use Rattle.lv_outside.specs.declared.answer.Put.TheVariants.{Done}
 use Rattle.host_main.proofs.Said.{said_more}
 use Rattle.host_main.proofs.checking.say.say_at.Goals as goal
 
 pub returns-clause-said : goal.returns-clause-said
 returns-clause-said g c =
-    let sink = sink_at g.K.Sink.tells g.K.Sink.taken g.K.Sink.faults in
+    let sink = g.K.Sink.state in
     let first : c.put.result ≡ Done = search rules in
     let second : c.put-2.result ≡ Done = search rules in
     said_more (sink c.args.out.now) (sink c.put.new.self) (sink c.put_line.new.out) (codes "lv2fx: 5 turtle ") _ c.put.ensures.known c.put.ensures.failed.later
