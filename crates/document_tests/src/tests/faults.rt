@@ -41,7 +41,7 @@ fn assert_fault(
     let (result, rows) = read_new(alloc, base, bytes);
     assert_eq!(rt; rows, 0);
     let text = format!(in alloc; "{:?}", result.err())?;
-    assert_eq!(rt; text.as_str(), fault);
+    assert!(rt; text.as_str() == fault, "{fault}");
     Ok(())
 }
 
