@@ -10,3 +10,4 @@ pub mod OneValue
 pub mod Reading
 pub mod OneAnswer
 pub mod Readings
+pub mod Firsts

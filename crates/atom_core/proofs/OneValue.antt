@@ -240,7 +240,7 @@ frame_one k l a b x y hk hl ha hb e =
     regroup : (k : ℕ) (a x : List ℕ) → framed k a ++ x ≡ u32 (length a) ++ (u32 k ++ (a ++ x))
     regroup k a x = append_assoc (u32 (length a)) (u32 k ++ a) x ∙ ap (λ l. u32 (length a) ++ l) (append_assoc (u32 k) a x)
 
-part_long : (lead : Lead) (v : Value) (rest : List ℕ) → 0 < length (part_of lead v ++ rest)
+pub part_long : (lead : Lead) (v : Value) (rest : List ℕ) → 0 < length (part_of lead v ++ rest)
 part_long lead v rest =
     let text = atom_of v in
     omega (

@@ -1,18 +1,19 @@
 -- What the readers of a view give, of any value that its bytes spell.
-use Rattle.std.proofs.Common.{◌≡◌, ℕ, ◌+◌, ◌-◌, ◌≤◌, true, false, List, length, drop, take, slice_range, Option, Some, ℤ, refl, sym, ap, ◌∙◌, arith}
+use Rattle.std.proofs.Common.{◌≡◌, ℕ, ◌+◌, ◌-◌, ◌≤◌, true, false, List, length, drop, take, slice_range, Option, Some, ℤ, refl, sym, ap, ◌∙◌, subst, arith}
 use Rattle.std.specs.Int.{w32, w64, from_le_bytes, cast_signed}
 use Rattle.std.proofs.lemmas.Bool.{eqb-true, leb-true}
 use Rattle.std.proofs.lemmas.List.{take_all, get_or-drop, length-drop, take_rest}
 use Rattle.lv_base.specs.declared.number.Fixed.{Fixed}
 use Rattle.atom_core.specs.Form.{form_of, allows_size, is_container}
 use Rattle.atom_core.specs.Place.{number_at, wide_at, size_at, kind_at, Stands}
-use Rattle.atom_core.specs.Value.{Value, plain, holding}
-use Rattle.atom_core.specs.Spelling.{kind_of, body_of, atom_of}
+use Rattle.atom_core.specs.Value.{tuple, object, sequence, Value, plain, holding, Parts}
+use Rattle.atom_core.specs.Spelling.{plain_kind, kind_of, body_of, atom_of}
 use Rattle.atom_core.specs.Fits.{Fits}
 use Rattle.atom_core.specs.Content.{IsOwn, form_at}
 use Rattle.atom_core.specs.Answer.{Spells}
 use Rattle.atom_core.specs.Readers.{int_of, long_of, fixed_of, urid_of, text_of}
-use Rattle.atom_core.proofs.OneValue.{plain_by, plain_from, plain_back, container_holds}
+use Rattle.atom_core.specs.Atoms.{SpellAtoms, parts_in, HoldsAtoms}
+use Rattle.atom_core.proofs.OneValue.{plain_by, plain_from, plain_back, plain_leaf, container_holds}
 use Rattle.atom_core.proofs.Reading.{atom_says, own_well}
 
 -- what bytes that spell a value say of it
@@ -110,3 +111,30 @@ module _ (bytes : List ℕ) (v : Value) (spells : Spells bytes v) where
 
   pub header_long : 8 ≤ length bytes
   header_long = omega (arith, here.size)
+
+-- the atoms of a tuple
+pub record TupleHere (bytes : List ℕ) (v : Value) : Type 0 where
+  pub parts : Parts
+  pub parts_are : parts_in v ≡ Some parts
+  pub spells : SpellAtoms (drop 8 bytes) parts
+
+pub tuple_here : (bytes : List ℕ) (v : Value) → Spells bytes v → kind_at bytes 0 ≡ 8 → TupleHere bytes v
+unfolding form_of
+tuple_here bytes (plain p) spells e =
+    let kind : plain_kind p ≡ 8 = sym (says bytes (plain p) spells).kind ∙ e in
+    absurd (apart (sym (plain_leaf p spells.fits.0) ∙ ap (λ k. is_container (form_of k)) kind))
+tuple_here bytes (holding tuple ps) spells e = record {
+  parts = ps;
+  parts_are = refl;
+  spells = (spells.fits.2, (says bytes (holding tuple ps) spells).body);
+}
+tuple_here bytes (holding (object id kind) ps) spells e =
+    absurd (omega (arith, (says bytes (holding (object id kind) ps) spells).kind, e))
+tuple_here bytes (holding sequence ps) spells e =
+    absurd (omega (arith, (says bytes (holding sequence ps) spells).kind, e))
+
+pub holds_atoms : (bytes : List ℕ) (v : Value) (left : List ℕ) → Spells bytes v → kind_at bytes 0 ≡ 8 → left ≡ drop 8 bytes → HoldsAtoms (Some left) (parts_in v)
+holds_atoms bytes v left spells e same =
+    let t = tuple_here bytes v spells e in
+    let here : SpellAtoms left t.parts = subst (λ (b : List ℕ). SpellAtoms b t.parts) (sym same) t.spells in
+    subst (λ p. HoldsAtoms (Some left) p) (sym t.parts_are) here

@@ -8,4 +8,6 @@ pub mod Parts
 pub mod Steps
 pub mod Answer
 pub mod Readers
+pub mod Atoms
+pub mod Iterating
 pub mod Laws

@@ -7,4 +7,6 @@ pub const URID: u32 = 4;
 
 pub const STRING: u32 = 5;
 
+pub const TUPLE: u32 = 8;
+
 pub const FIXED: u32 = 14;

@@ -9,9 +9,11 @@ mod laws;
 mod number;
 mod outer;
 mod part;
+mod parts;
 mod view;
 
 pub use fault::AtomFault;
 pub use laws::{one_answer, one_spelling, one_value};
 pub use outer::check;
+pub use parts::AtomParts;
 pub use view::{AtomView, read};

@@ -26,7 +26,7 @@ pub enum Step {
 }
 
 /// A number of bytes up to the next multiple of 8.
-fn padded(size: usize) -> usize
+pub fn padded(size: usize) -> usize
     requires { size < 2 ^ 33 }
     ensures { result ≡ padded size }
 {

@@ -5,11 +5,13 @@ ghost use Rattle.atom_core.specs.Value.{Value};
 ghost use Rattle.atom_core.specs.Spelling.{kind_of, body_of};
 ghost use Rattle.atom_core.specs.Answer.{Spells, IsAtom, HasFault};
 ghost use Rattle.atom_core.specs.Readers.{int_of, long_of, fixed_of, urid_of, text_of};
+ghost use Rattle.atom_core.specs.Atoms.{parts_in, HoldsAtoms};
 
 use crate::fault::AtomFault;
-use crate::kind::{FIXED, INT, LONG, STRING, URID};
+use crate::kind::{FIXED, INT, LONG, STRING, TUPLE, URID};
 use crate::number::{i32_at, i64_at, u32_at};
 use crate::outer::check;
+use crate::parts::AtomParts;
 use lv_base::Fixed;
 
 /// An atom in place: the bytes of its header and of its body.
@@ -30,7 +32,7 @@ pub fn read(bytes: &[u8]) -> Result<AtomView<'_>, AtomFault>
 }
 
 /// What stands behind so many bytes.
-fn behind(bytes: &[u8], from: usize) -> &[u8]
+pub fn behind(bytes: &[u8], from: usize) -> &[u8]
     requires { from ≤ length bytes.now }
     ensures { result.now ≡ drop from bytes.now }
 {
@@ -46,6 +48,14 @@ fn without_zero(text: &[u8]) -> &[u8]
 }
 
 impl<'a> AtomView<'a> {
+    /// The atom that bytes spell.
+    pub(crate) fn over(bytes: &'a [u8]) -> Self
+        requires { ∥ IsAtom bytes.now ∥₁ }
+        ensures { result.bytes.now ≡ bytes.now }
+    {
+        AtomView { bytes }
+    }
+
     /// The number of its type.
     pub fn kind(&self) -> u32
         ensures place { result ≡ kind_at self.now.bytes.now 0 }
@@ -110,5 +120,15 @@ impl<'a> AtomView<'a> {
             return None;
         }
         Some(without_zero(self.body()))
+    }
+
+    /// The atoms of a Tuple, in order.
+    pub fn parts(&self) -> Option<AtomParts<'a>>
+        ensures { (v : Value) → Spells self.now.bytes.now v → HoldsAtoms result (parts_in v) }
+    {
+        if self.kind() != TUPLE {
+            return None;
+        }
+        Some(AtomParts::over(self.body()))
     }
 }

@@ -1,4 +1,4 @@
-ghost use Rattle.std.specs.Prelude.{◌≡◌, [], ◌∷◌, ◌++◌, ◌<◌, ◌^◌, length, OnOk, OnErr};
+ghost use Rattle.std.specs.Prelude.{◌≡◌, [], ◌∷◌, ◌++◌, ◌<◌, ◌^◌, length, OnOk, string_bytes};
 ghost use Rattle.session_script.specs.Places as spec;
 ghost use Rattle.session_script.specs.Places.{is_there};
 
@@ -68,8 +68,18 @@ impl Roster {
         requires new { spec.place self.old inst.name ≡ length self.old }
         ensures pushed { OnOk result (self.new ≡ self.old ++ inst ∷ []) }
     {
-        let number = self.insts.len() as u32;
         let name = String::from_str(alloc, inst.name.as_str())?;
+        self.enter(name, inst)
+    }
+
+    /// Adds an instance of a new name, with a text of its name.
+    fn enter(&mut self, name: String, inst: Inst) -> Result<(), NoMemory>
+        requires few { length self.old < 2 ^ 32 }
+        requires new { spec.place self.old inst.name ≡ length self.old }
+        requires named { string_bytes name ≡ inst.name }
+        ensures pushed { OnOk result (self.new ≡ self.old ++ inst ∷ []) }
+    {
+        let number = self.insts.len() as u32;
         self.insts.push(inst)?;
         match self.numbers.insert(name, number) {
             Ok(_) => Ok(()),

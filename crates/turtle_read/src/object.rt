@@ -36,16 +36,20 @@ fn short_term(
 }
 
 impl Reader {
-    ghost use Rattle.std.specs.Prelude.{◌≡◌, length, IfOk, OnOk};
+    ghost use Rattle.std.specs.Prelude.{◌≡◌, length, IfOk, OnOk, ◌^◌};
     ghost use Rattle.turtle_document.specs.Meaning.{may_open, numbered};
     ghost use Rattle.turtle_grammar.specs.declared.token.TokenKind.TheVariants as kinds;
     ghost use Rattle.turtle_read.specs.Moves as machine;
     ghost use Rattle.turtle_read.specs.Faults.{leaf_of, Follows, Gives};
+    ghost use Rattle.turtle_document.specs.Below.{HoleBelow};
+    ghost use Rattle.turtle_read.specs.Rooms.{HasRoom};
     ghost use Rattle.turtle_read.specs.Readers.{config_of, inside, kept};
 
     // The first token of an object that fills a hole.
     #[inline(always)]
     pub(crate) fn begin_object(&mut self, token: Lexeme<'_>, hole: Hole) -> Result<(), TokenFault>
+        requires room { HasRoom 1 (inside self.old) }
+        requires hole { HoleBelow (2 ^ 31) hole }
         ensures moves { Follows token.entry.at result (config_of self.new) (inside self.new) (machine.begin_object token.entry.kind hole (leaf_of token.entry) self.old.outer (inside self.old)) }
         ensures kept { kept self.new ≡ kept self.old }
     {
@@ -66,6 +70,8 @@ impl Reader {
     // The first token of an object that is no string.
     #[inline(always)]
     fn begin_short(&mut self, token: Lexeme<'_>, hole: Hole) -> Result<(), TokenFault>
+        requires room { HasRoom 1 (inside self.old) }
+        requires hole { HoleBelow (2 ^ 31) hole }
         ensures moves { Follows token.entry.at result (config_of self.new) (inside self.new) (machine.begin_short token.entry.kind hole (leaf_of token.entry) self.old.outer (inside self.old)) }
         ensures kept { kept self.new ≡ kept self.old }
     {
@@ -78,6 +84,8 @@ impl Reader {
     // The first token of an IRI or a blank node.
     #[inline(always)]
     pub(crate) fn begin_resource(&mut self, token: Lexeme<'_>, hole: Hole) -> Result<(), TokenFault>
+        requires room { HasRoom 1 (inside self.old) }
+        requires hole { HoleBelow (2 ^ 31) hole }
         ensures moves { Follows token.entry.at result (config_of self.new) (inside self.new) (machine.begin_resource token.entry.kind hole (leaf_of token.entry) self.old.outer (inside self.old)) }
         ensures kept { kept self.new ≡ kept self.old }
     {
@@ -94,6 +102,8 @@ impl Reader {
 
     // The first token of a blank node.
     fn begin_node(&mut self, token: Lexeme<'_>, hole: Hole) -> Result<(), TokenFault>
+        requires room { HasRoom 1 (inside self.old) }
+        requires hole { HoleBelow (2 ^ 31) hole }
         ensures moves { Follows token.entry.at result (config_of self.new) (inside self.new) (machine.begin_node token.entry.kind hole (leaf_of token.entry) self.old.outer (inside self.old)) }
         ensures kept { kept self.new ≡ kept self.old }
     {
@@ -107,6 +117,8 @@ impl Reader {
 
     // The label of a blank node.
     fn begin_label(&mut self, token: Lexeme<'_>, hole: Hole) -> Result<(), TokenFault>
+        requires room { HasRoom 1 (inside self.old) }
+        requires hole { HoleBelow (2 ^ 31) hole }
         ensures moves { Follows token.entry.at result (config_of self.new) (inside self.new) (machine.begin_node kinds.BlankLabel hole (leaf_of token.entry) self.old.outer (inside self.old)) }
         ensures kept { kept self.new ≡ kept self.old }
     {
@@ -116,6 +128,8 @@ impl Reader {
 
     // The bracket of a property list or of a node without one.
     fn open_square(&mut self, token: Lexeme<'_>, hole: Hole) -> Result<(), TokenFault>
+        requires room { HasRoom 1 (inside self.old) }
+        requires hole { HoleBelow (2 ^ 31) hole }
         ensures moves { Follows token.entry.at result (config_of self.new) (inside self.new) (machine.begin_node kinds.OpenSquare hole (leaf_of token.entry) self.old.outer (inside self.old)) }
         ensures kept { kept self.new ≡ kept self.old }
     {
@@ -127,6 +141,7 @@ impl Reader {
 
     // The number of a node whose bracket opens at a place.
     fn new_node(&mut self, at: usize) -> Result<u32, TokenFault>
+        requires room { HasRoom 1 (inside self.old) }
         ensures value { Gives (λ _. inside self.old) result (may_open at (length self.old.outer) (inside self.old)) }
         ensures node { IfOk result (λ node. node ≡ (inside self.old).blanks) }
         ensures next { OnOk result (inside self.new ≡ numbered (inside self.old)) }
@@ -134,12 +149,12 @@ impl Reader {
         ensures kept { kept self.new ≡ kept self.old }
     {
         self.may_open(at)?;
-        let node = self.environment.number()?;
-        Ok(node)
+        Ok(self.environment.number())
     }
 
     // The bracket of a collection.
     fn open_round(&mut self, token: Lexeme<'_>, hole: Hole) -> Result<(), TokenFault>
+        requires hole { HoleBelow (2 ^ 31) hole }
         ensures moves { Follows token.entry.at result (config_of self.new) (inside self.new) (machine.begin_node kinds.OpenRound hole (leaf_of token.entry) self.old.outer (inside self.old)) }
         ensures kept { kept self.new ≡ kept self.old }
     {

@@ -32,9 +32,8 @@ fn assert_counts(rt: &impl Abort, alloc: Global, base: &Text, line: &str)
     requires { is_some (scheme_of base.now) ≡ true }
 {
     let (count, document) = line.split_once(' ').unwrap_or(("", ""));
-    let (result, rows) = read_new(alloc, base, document.as_bytes());
-    assert_eq!(rt; result, Ok(rows), "{line}");
-    assert_eq!(rt; count.parse::<u32>(), Ok(rows), "{line}");
+    let (result, _) = read_new(alloc, base, document.as_bytes());
+    assert_eq!(rt; result.ok(), count.parse::<u32>().ok(), "{line}");
 }
 
 #[test]

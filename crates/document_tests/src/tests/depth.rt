@@ -18,15 +18,20 @@ fn nested(alloc: Global, depth: usize) -> Result<String, Fail> {
     Ok(text)
 }
 
+/// What such a document is.
+fn read_nested(alloc: Global, depth: usize) -> Result<Result<u32, TurtleFault>, Fail> {
+    let base = base(alloc)?;
+    let text = nested(alloc, depth)?;
+    let (result, _) = read_new(alloc, &base, text.as_bytes());
+    Ok(result)
+}
+
 /// All but the innermost collection have one item, hence two triples.
 #[test]
 fn depth(rt: HostRuntime) -> Result<(), Fail> {
-    let base = base(rt.alloc())?;
-    let most = nested(rt.alloc(), 256)?;
-    let deeper = nested(rt.alloc(), 257)?;
-    let (result, _) = read_new(rt.alloc(), &base, most.as_bytes());
-    assert_eq!(rt; result, Ok(511));
-    let (result, _) = read_new(rt.alloc(), &base, deeper.as_bytes());
-    assert_eq!(rt; result, Err(TurtleFault::Depth(272)));
+    let most = read_nested(rt.alloc(), 256)?;
+    assert_eq!(rt; most, Ok(511));
+    let deeper = read_nested(rt.alloc(), 257)?;
+    assert_eq!(rt; deeper, Err(TurtleFault::Depth(272)));
     Ok(())
 }

@@ -39,9 +39,9 @@ fn assert_fault(
     requires { is_some (scheme_of base.now) ≡ true }
 {
     let (result, rows) = read_new(alloc, base, bytes);
-    let text = format!(in alloc; "{:?}", result.err())?;
-    assert_eq!(rt; text.as_str(), fault);
     assert_eq!(rt; rows, 0);
+    let text = format!(in alloc; "{:?}", result.err())?;
+    assert!(rt; text.as_str() == fault, "{fault}");
     Ok(())
 }
 

@@ -4,7 +4,7 @@ ghost use Rattle.std.specs.Prelude.{◌≡◌, true, is_some};
 ghost use Rattle.iri_resolve.specs.Components.{scheme_of};
 
 use crate::tests::reading::{base, read_two};
-use lv_base::Text;
+use lv_base::{NoMemory, Text};
 use std::alloc::Global;
 use std::process::Abort;
 use std::test::Fail;
@@ -41,14 +41,18 @@ fn every_front(rt: HostRuntime) -> Result<(), Fail> {
     Ok(())
 }
 
+/// How many rows two documents leave in one store.
+fn rows_of(alloc: Global, first: &[u8], second: &[u8]) -> Result<u32, NoMemory> {
+    let base = base(alloc)?;
+    let (_, _, rows) = read_two(alloc, &base, first, second);
+    Ok(rows)
+}
+
 /// Blank nodes of a second document aren't those of the first.
 #[test]
 fn two_documents(rt: HostRuntime) -> Result<(), Fail> {
-    let base = base(rt.alloc())?;
     let document = b"_:a <p> 1 . <s> <p> 1 .";
-    let (first, second, rows) = read_two(rt.alloc(), &base, document, document);
-    assert_eq!(rt; first, Ok(2));
-    assert_eq!(rt; second, Ok(1));
+    let rows = rows_of(rt.alloc(), document, document)?;
     assert_eq!(rt; rows, 3);
     Ok(())
 }

@@ -2,7 +2,6 @@ use super::ended::{Ended, Fails, hold, run};
 use lv_base::{Bytes, NoMemory};
 use std::alloc::Global;
 use std::process::Abort;
-use std::test::Fail;
 
 fn check(
     alloc: Global,
@@ -45,7 +44,7 @@ const WORKED_LISTING: &str = concat!(
 );
 
 #[test]
-fn a_collection_and_a_tag(rt: HostRuntime) -> Result<(), Fail> {
+fn a_collection_and_a_tag(rt: HostRuntime) -> Result<(), NoMemory> {
     let ended = check_manifest(rt.alloc(), WORKED)?;
     assert!(rt; ended.is(0, WORKED_LISTING));
     Ok(())
@@ -65,7 +64,7 @@ fn refused<R: Abort + AllocGlobal>(
 
 // Documents that break off, and one that goes on with a word that no document has there.
 #[test]
-fn no_documents(rt: HostRuntime) -> Result<(), Fail> {
+fn no_documents(rt: HostRuntime) -> Result<(), NoMemory> {
     refused(
         &rt,
         "@prefix a: <urn:x:>\na:b a a:c .",
@@ -92,7 +91,7 @@ fn nested(alloc: Global, depth: usize) -> Result<String, NoMemory> {
 
 // The 257th bracket is one too many.
 #[test]
-fn depth(rt: HostRuntime) -> Result<(), Fail> {
+fn depth(rt: HostRuntime) -> Result<(), NoMemory> {
     let manifest = nested(rt.alloc(), 257)?;
     refused(
         &rt,
@@ -111,7 +110,7 @@ fn missing<R: Abort + AllocGlobal>(rt: &R, word: &str, line: &str) -> Result<(),
 }
 
 #[test]
-fn folders_without_a_manifest(rt: HostRuntime) -> Result<(), Fail> {
+fn folders_without_a_manifest(rt: HostRuntime) -> Result<(), NoMemory> {
     missing(&rt, "b", "lv2fx: 2 missing b/manifest.ttl\n")?;
     missing(&rt, "b/", "lv2fx: 2 missing b/manifest.ttl\n")?;
     missing(&rt, "b//", "lv2fx: 2 missing b//manifest.ttl\n")?;
@@ -121,7 +120,7 @@ fn folders_without_a_manifest(rt: HostRuntime) -> Result<(), Fail> {
 }
 
 #[test]
-fn a_fault_of_the_vault(rt: HostRuntime) -> Result<(), Fail> {
+fn a_fault_of_the_vault(rt: HostRuntime) -> Result<(), NoMemory> {
     let fails = Fails {
         vault: Some(0),
         sink: None,
@@ -138,7 +137,7 @@ const NO_SINK: Fails = Fails {
 };
 
 #[test]
-fn a_fault_of_the_sink(rt: HostRuntime) -> Result<(), Fail> {
+fn a_fault_of_the_sink(rt: HostRuntime) -> Result<(), NoMemory> {
     let files = manifest_alone(rt.alloc(), "")?;
     let ended = check(rt.alloc(), "b", files, NO_SINK)?;
     assert!(rt; ended.is(4, "lv2fx: 4 write failed -\n"));
@@ -147,7 +146,7 @@ fn a_fault_of_the_sink(rt: HostRuntime) -> Result<(), Fail> {
 
 // Nothing is left to say where the line fails as well.
 #[test]
-fn a_line_that_fails(rt: HostRuntime) -> Result<(), Fail> {
+fn a_line_that_fails(rt: HostRuntime) -> Result<(), NoMemory> {
     let ended = check(rt.alloc(), "b", Vec::new(rt.alloc()), NO_SINK)?;
     assert!(rt; ended.is(2, ""));
     Ok(())
@@ -203,7 +202,7 @@ fn amplifier(alloc: Global) -> Result<Vec<(Bytes, Bytes)>, NoMemory> {
 }
 
 #[test]
-fn an_amplifier(rt: HostRuntime) -> Result<(), Fail> {
+fn an_amplifier(rt: HostRuntime) -> Result<(), NoMemory> {
     let files = amplifier(rt.alloc())?;
     let ended = check(rt.alloc(), "b", files, Fails::NONE)?;
     assert!(rt; ended.ends_in(AMP_LINES));
@@ -211,7 +210,7 @@ fn an_amplifier(rt: HostRuntime) -> Result<(), Fail> {
 }
 
 #[test]
-fn a_named_file_that_is_missing(rt: HostRuntime) -> Result<(), Fail> {
+fn a_named_file_that_is_missing(rt: HostRuntime) -> Result<(), NoMemory> {
     refused(&rt, AMP_MANIFEST, 2, "lv2fx: 2 missing b/amp.ttl\n")?;
     Ok(())
 }
@@ -232,7 +231,7 @@ fn broken<R: Abort + AllocGlobal>(rt: &R, statements: &str, line: &str) -> Resul
 }
 
 #[test]
-fn numbers_that_are_wrong(rt: HostRuntime) -> Result<(), Fail> {
+fn numbers_that_are_wrong(rt: HostRuntime) -> Result<(), NoMemory> {
     broken(
         &rt,
         "; lv2:port [ a lv2:InputPort , lv2:ControlPort ; lv2:index 0 ; lv2:symbol \"a\" ; lv2:name \"A\" ] , [ a lv2:InputPort , lv2:ControlPort ; lv2:index 2 ; lv2:symbol \"b\" ; lv2:name \"B\" ]",
@@ -247,7 +246,7 @@ fn numbers_that_are_wrong(rt: HostRuntime) -> Result<(), Fail> {
 }
 
 #[test]
-fn ports_that_are_wrong(rt: HostRuntime) -> Result<(), Fail> {
+fn ports_that_are_wrong(rt: HostRuntime) -> Result<(), NoMemory> {
     broken(
         &rt,
         "; lv2:port [ a lv2:InputPort , lv2:ControlPort ; lv2:index 0 ; lv2:symbol \"2in\" ; lv2:name \"A\" ]",
@@ -262,7 +261,7 @@ fn ports_that_are_wrong(rt: HostRuntime) -> Result<(), Fail> {
 }
 
 #[test]
-fn a_feature_that_is_required(rt: HostRuntime) -> Result<(), Fail> {
+fn a_feature_that_is_required(rt: HostRuntime) -> Result<(), NoMemory> {
     broken(
         &rt,
         "; lv2:requiredFeature <urn:no>",
@@ -280,7 +279,7 @@ fn kept<R: Abort + AllocGlobal>(rt: &R, statements: &str, lines: &str) -> Result
 }
 
 #[test]
-fn plugins_that_break_no_rule(rt: HostRuntime) -> Result<(), Fail> {
+fn plugins_that_break_no_rule(rt: HostRuntime) -> Result<(), NoMemory> {
     kept(
         &rt,
         "; lv2:optionalFeature <urn:no>",

@@ -4,7 +4,6 @@ use lv_base::{Bytes, NoMemory};
 use lv_outside::MemSink;
 use std::alloc::Global;
 use std::process::Abort;
-use std::test::Fail;
 
 const STATE: &str =
     "@prefix state: <http://lv2plug.in/ns/ext/state#> .\n@prefix fx: <urn:lv2fx:> .\n";
@@ -45,7 +44,7 @@ fn render(alloc: Global, words: &[&str], session: &str, fails: Fails) -> Result<
 }
 
 #[test]
-fn a_constant_through_an_amplifier(rt: HostRuntime) -> Result<(), Fail> {
+fn a_constant_through_an_amplifier(rt: HostRuntime) -> Result<(), NoMemory> {
     let ended = render(rt.alloc(), RENDER, CONST_TO_AMP, Fails::NONE)?;
     assert!(rt; ended.is(0, CONST_TO_AMP_SUMMARY));
     assert!(rt; ended.holds("o.rec", CONST_TO_AMP_RECORD.as_bytes()));
@@ -54,7 +53,7 @@ fn a_constant_through_an_amplifier(rt: HostRuntime) -> Result<(), Fail> {
 }
 
 #[test]
-fn no_blocks(rt: HostRuntime) -> Result<(), Fail> {
+fn no_blocks(rt: HostRuntime) -> Result<(), NoMemory> {
     let ended = render(rt.alloc(), RENDER, NO_BLOCKS, Fails::NONE)?;
     assert!(rt; ended.holds("o.rec", NO_BLOCKS_RECORD.as_bytes()));
     assert!(rt; ended.holds("o.pcm", b""));
@@ -69,7 +68,7 @@ fn sounds<R: Abort + AllocGlobal>(rt: &R, session: &str, sound: &[u8]) -> Result
 }
 
 #[test]
-fn a_quarter_and_full_scale(rt: HostRuntime) -> Result<(), Fail> {
+fn a_quarter_and_full_scale(rt: HostRuntime) -> Result<(), NoMemory> {
     sounds(
         &rt,
         CONST_TO_AMP,
@@ -85,7 +84,7 @@ fn a_quarter_and_full_scale(rt: HostRuntime) -> Result<(), Fail> {
 
 // The sum of the first two constants is beyond the greatest sample, that of all three isn't.
 #[test]
-fn a_mix(rt: HostRuntime) -> Result<(), Fail> {
+fn a_mix(rt: HostRuntime) -> Result<(), NoMemory> {
     let session =
         "lv2fx 1\nblock 1\nblocks 1\ninst p urn:lv2fx:const\ninst q urn:lv2fx:const\ninst r urn:lv2fx:const\ninst g urn:lv2fx:amp\nset p value 100.0\nset q value 100.0\nset r value -100.0\nset g gain 0.0078125\ncable p out g in\ncable q out g in\ncable r out g in\nout g out\n";
     sounds(&rt, session, b"\x00\x64")?;
@@ -93,7 +92,7 @@ fn a_mix(rt: HostRuntime) -> Result<(), Fail> {
 }
 
 #[test]
-fn the_last_of_two_settings(rt: HostRuntime) -> Result<(), Fail> {
+fn the_last_of_two_settings(rt: HostRuntime) -> Result<(), NoMemory> {
     let session =
         "lv2fx 1\nblock 1\nblocks 1\ninst c urn:lv2fx:const\nset c value 1.0\nset c value 0.25\nout c out\n";
     sounds(&rt, session, b"\x00\x20")?;
@@ -102,7 +101,7 @@ fn the_last_of_two_settings(rt: HostRuntime) -> Result<(), Fail> {
 
 // Its lines end with CR and LF, and the last has no end.
 #[test]
-fn two_channels(rt: HostRuntime) -> Result<(), Fail> {
+fn two_channels(rt: HostRuntime) -> Result<(), NoMemory> {
     let session =
         "lv2fx 1\r\nblock 1\r\nblocks 2\r\ninst c urn:lv2fx:const\r\ninst d urn:lv2fx:const\r\nset c value 0.25\r\nset d value -0.25\r\nout d out\r\nout c out";
     sounds(&rt, session, b"\x00\xe0\x00\x20\x00\xe0\x00\x20")?;
@@ -124,7 +123,7 @@ fn refused<R: Abort + AllocGlobal>(
 }
 
 #[test]
-fn words_of_no_form(rt: HostRuntime) -> Result<(), Fail> {
+fn words_of_no_form(rt: HostRuntime) -> Result<(), NoMemory> {
     refused(&rt, &[], CONST_TO_AMP, 1, USAGE)?;
     refused(&rt, &["check"], CONST_TO_AMP, 1, USAGE)?;
     refused(&rt, &["check", "s", "o"], CONST_TO_AMP, 1, USAGE)?;
@@ -135,12 +134,13 @@ fn words_of_no_form(rt: HostRuntime) -> Result<(), Fail> {
 #[test]
 fn words_without_memory(rt: HostRuntime) {
     let mut out = MemSink::new(rt.alloc(), Vec::new(rt.alloc()));
-    assert_eq!(rt; without_words(&mut out), 14);
-    assert_eq!(rt; out.taken(), b"lv2fx: 14 no memory\n".as_slice());
+    let status = without_words(&mut out);
+    assert!(rt; status == 14);
+    assert!(rt; out.taken() == b"lv2fx: 14 no memory\n".as_slice());
 }
 
 #[test]
-fn sessions_that_are_refused(rt: HostRuntime) -> Result<(), Fail> {
+fn sessions_that_are_refused(rt: HostRuntime) -> Result<(), NoMemory> {
     refused(
         &rt,
         &["render", "there", "o"],
@@ -199,7 +199,7 @@ fn has_written(ended: &Ended, count: usize) -> bool {
 }
 
 #[test]
-fn each_fault_of_the_vault(rt: HostRuntime) -> Result<(), Fail> {
+fn each_fault_of_the_vault(rt: HostRuntime) -> Result<(), NoMemory> {
     fails_at(&rt, 0, "lv2fx: 3 read failed s\n", 3, 0)?;
     fails_at(&rt, 1, "lv2fx: 4 write failed o.rec\n", 4, 0)?;
     fails_at(&rt, 2, "lv2fx: 4 write failed o.pcm\n", 4, 1)?;
@@ -214,7 +214,7 @@ const NO_SINK: Fails = Fails {
 };
 
 #[test]
-fn a_fault_of_the_sink(rt: HostRuntime) -> Result<(), Fail> {
+fn a_fault_of_the_sink(rt: HostRuntime) -> Result<(), NoMemory> {
     let ended = render(rt.alloc(), RENDER, CONST_TO_AMP, NO_SINK)?;
     assert!(rt; ended.is(4, "lv2fx: 4 write failed -\n"));
     assert!(rt; ended.holds("o.ttl", STATE.as_bytes()));
@@ -223,7 +223,7 @@ fn a_fault_of_the_sink(rt: HostRuntime) -> Result<(), Fail> {
 
 // Nothing is left to say where the line fails as well.
 #[test]
-fn a_line_that_fails(rt: HostRuntime) -> Result<(), Fail> {
+fn a_line_that_fails(rt: HostRuntime) -> Result<(), NoMemory> {
     let ended = render(rt.alloc(), RENDER, "", NO_SINK)?;
     assert!(rt; ended.is(7, ""));
     Ok(())

@@ -38,4 +38,4 @@ returns-in-DirectiveDot-clause-moves c =
 
 pub returns-in_default-clause-moves : goal.returns-in_default-clause-moves
 returns-in_default-clause-moves c =
-    (refl, laws.outer_waits c.args.next c.args.self.now.outer c.args.token.kind (leaf_of c.args.token) (inside c.args.self.now) c.requires c.in_default.not-Statement c.in_default.not-Prefix c.in_default.not-Namespace c.in_default.not-Base c.in_default.not-DirectiveDot)
+    (refl, laws.outer_waits c.args.next c.args.self.now.outer c.args.token.kind (leaf_of c.args.token) (inside c.args.self.now) c.requires.outer c.in_default.not-Statement c.in_default.not-Prefix c.in_default.not-Namespace c.in_default.not-Base c.in_default.not-DirectiveDot)

@@ -7,13 +7,13 @@ use Rattle.std.proofs.lemmas.Map.Text.{btree_map_updates_text}
 use Rattle.session_script.specs.declared.session.Inst.{Inst}
 use Rattle.session_script.specs.Places.{place}
 use Rattle.session_script.proofs.Rosters.{found_more}
-use Rattle.session_script.proofs.roster.Roster.push.Goals as goal
+use Rattle.session_script.proofs.roster.Roster.enter.Goals as goal
 
 pub invariant_of-self-in-Ok : goal.invariant_of-self-in-Ok
 invariant_of-self-in-Ok c = λ name.
     let insts = c.self.inside.insts in
-    let key : string_bytes c.in_ok-name.name ≡ c.args.inst.name = c.in_ok-name.ensures.ok ∙ c.as_str.ensures in
-    let set = btree_map_updates_text (string_bytes c.in_ok-name.name) c.self.inside.numbers c.insert.new.self (Some c.len-number.result) c.in-Ok.ensures.updates name in
+    let key : string_bytes c.args.name ≡ c.args.inst.name = c.requires.named in
+    let set = btree_map_updates_text (string_bytes c.args.name) c.self.inside.numbers c.insert.new.self (Some c.len-number.result) c.in-Ok.ensures.updates name in
     let step : get_by_text c.insert.new.self name ≡ cond (bytes_eq c.args.inst.name name) (Some (length insts)) (position (λ (one : Inst). bytes_eq one.name name) insts) =
     set ∙ ap (λ key. cond (bytes_eq key name) (Some c.len-number.result) (get_by_text c.self.inside.numbers name)) key
     ∙ ap (λ n. cond (bytes_eq c.args.inst.name name) (Some n) (get_by_text c.self.inside.numbers name)) c.len-number.ensures
