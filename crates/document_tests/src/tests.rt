@@ -3,4 +3,4 @@ mod depth;
 mod faults;
 mod fronts;
 mod listings;
-mod load;
+mod reading;

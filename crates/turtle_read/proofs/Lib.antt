@@ -8,3 +8,4 @@ pub mod Moves
 pub mod Taken
 pub mod Told
 pub mod Recents
+pub mod Bounds

@@ -24,11 +24,12 @@ use Rattle.std.specs.Option.{option_map}
 use Rattle.turtle_value.specs.Quotings.{quoting_of}
 use Rattle.turtle_value.specs.declared.quoted.Quotes.{Quotes}
 use Rattle.turtle_read.specs.Faults.{Stops}
+use Rattle.turtle_read.specs.Names.{short_of}
 use Rattle.turtle_read.specs.States.{with_prefix}
 use Rattle.turtle_read.specs.declared.token_fault.TokenFault.{TokenFault}
 use Rattle.turtle_read.specs.declared.token_fault.TokenFault.TheVariants.{Syntax, NoPrefix, BadIri, Depth, StoreFull, NoMemory}
 use Rattle.turtle_read.proofs.Stops.{at_name, at_none, at_fault, started_at, not_started}
-use Rattle.turtle_read.specs.Moves.{at_a, end_statement, absolute, based_on, add, named, filled, closed, begin_node, begin_resource, begin_short, begin_object, started_by, linked, ended, begin_item, in_collection, at_verb, at_end, after_object, after_semicolon, after_listed, in_brackets, at_directive, at_statement, at_prefix, at_namespace, at_base, at_dot, typed_by, plain_move, follows, after_string, move}
+use Rattle.turtle_read.specs.Moves.{at_a, end_statement, absolute, based_on, add, named, filled, closed, begin_node, begin_resource, begin_short, begin_object, started_by, linked, ended, begin_item, in_collection, at_verb, at_end, after_object, after_semicolon, after_listed, in_brackets, at_directive, at_statement, at_prefix, at_namespace, at_base, at_dot, typed_by, plain_move, follows, after_string, move, IsOuter}
 
 -- ---- holes
 
@@ -170,23 +171,34 @@ pub not_quoted : (kind : TokenKind) (hole : Hole) (leaf : Leaf) (outer : List Ho
 unfolding begin_object begin_short
 not_quoted kind hole leaf outer st e = ap (λ o. machine.begin_by o kind hole leaf outer st) (sym e)
 
-pub short : (kind : TokenKind) (hole : Hole) (leaf : Leaf) (outer : List Hole) (st : State) (d text : List ℕ)
-    → Some d ≡ option_map datatype_of (as_shorthand kind) → text ≡ leaf.text → begin_short kind hole leaf outer st ≡ filled hole leaf.at (terms.Literal text d []) outer st
+pub short : (kind : TokenKind) (hole : Hole) (leaf : Leaf) (outer : List Hole) (st : State) (term : Term)
+    → Some term ≡ option_map (short_of leaf.text) (as_shorthand kind) → begin_short kind hole leaf outer st ≡ filled hole leaf.at term outer st
 unfolding begin_short filled
-short kind hole leaf outer st d text e t = by (as_shorthand kind) e ∙ ap (λ x. machine.filled hole leaf.at (terms.Literal x d []) outer st) (sym t)
+short kind hole leaf outer st term e = by (as_shorthand kind) e
   where
-    by : (o : Option Shorthand) → Some d ≡ option_map datatype_of o → machine.begin_short o kind hole leaf outer st ≡ machine.filled hole leaf.at (terms.Literal leaf.text d []) outer st
+    by : (o : Option Shorthand) → Some term ≡ option_map (short_of leaf.text) o → machine.begin_short o kind hole leaf outer st ≡ machine.filled hole leaf.at term outer st
     by None e = cc
-    by (Some s) e = let same : datatype_of s ≡ d = cc in ap (λ x. machine.filled hole leaf.at (terms.Literal leaf.text x []) outer st) same
+    by (Some s) e = let same : short_of leaf.text s ≡ term = cc in ap (λ x. machine.filled hole leaf.at x outer st) same
 
 pub not_short : (kind : TokenKind) (hole : Hole) (leaf : Leaf) (outer : List Hole) (st : State)
-    → None ≡ option_map datatype_of (as_shorthand kind) → begin_short kind hole leaf outer st ≡ begin_resource kind hole leaf outer st
+    → None ≡ option_map (short_of leaf.text) (as_shorthand kind) → begin_short kind hole leaf outer st ≡ begin_resource kind hole leaf outer st
 unfolding begin_short begin_resource
 not_short kind hole leaf outer st e = by (as_shorthand kind) e
   where
-    by : (o : Option Shorthand) → None ≡ option_map datatype_of o → machine.begin_short o kind hole leaf outer st ≡ machine.begin_resource (as_name kind leaf) kind hole leaf outer st
+    by : (o : Option Shorthand) → None ≡ option_map (short_of leaf.text) o → machine.begin_short o kind hole leaf outer st ≡ machine.begin_resource (as_name kind leaf) kind hole leaf outer st
     by None e = refl
     by (Some s) e = cc
+
+-- the literal by its parts
+pub short_by : (o : Option Shorthand) (text d own : List ℕ) (term : Term) → Some d ≡ option_map datatype_of o → own ≡ text → term ≡ terms.Literal own d []
+    → Some term ≡ option_map (short_of text) o
+short_by None text d own term e t l = cc
+short_by (Some s) text d own term e t l =
+    let same : d ≡ datatype_of s = cc in ap Some (l ∙ ap (λ x. terms.Literal x d []) t ∙ ap (λ x. terms.Literal text x []) same)
+
+pub no_short : (o : Option Shorthand) (text : List ℕ) → None ≡ option_map datatype_of o → None ≡ option_map (short_of text) o
+no_short None text e = refl
+no_short (Some s) text e = cc
 
 pub resource_named : (kind : TokenKind) (hole : Hole) (leaf : Leaf) (outer : List Hole) (st : State) (iri : List ℕ) → named kind leaf st ≡ Ok (Some iri)
     → begin_resource kind hole leaf outer st ≡ filled hole leaf.at (terms.Iri iri) outer st
@@ -630,3 +642,29 @@ pub dot_other : (kind : TokenKind) (outer : List Hole) (st : State) → kind ≢
 unfolding at_dot
 dot_other kinds.Dot outer st n = absurd (n refl)
 dot_other _ outer st n = refl
+
+-- what is none of the others
+pub is_outer : (next : Expected) → ((s : Term) → next ≢ expect.Verb s) → ((s : Term) → next ≢ expect.AfterSemicolon s) → ((s p : Term) → next ≢ expect.AfterObject s p)
+    → ((s : Term) → next ≢ expect.AfterListed s) → ((s p : Term) → next ≢ expect.Object s p) → ((chain : Chain) → next ≢ expect.Item chain)
+    → ((node : ℕ) → next ≢ expect.Property node) → ((text : List ℕ) (hole : Hole) → next ≢ expect.Datatype text hole) → IsOuter next
+is_outer (expect.Verb s) a b c d e f g h = absurd (a s refl)
+is_outer (expect.AfterSemicolon s) a b c d e f g h = absurd (b s refl)
+is_outer (expect.AfterObject s p) a b c d e f g h = absurd (c s p refl)
+is_outer (expect.AfterListed s) a b c d e f g h = absurd (d s refl)
+is_outer (expect.Object s p) a b c d e f g h = absurd (e s p refl)
+is_outer (expect.Item chain) a b c d e f g h = absurd (f chain refl)
+is_outer (expect.Property node) a b c d e f g h = absurd (g node refl)
+is_outer (expect.Datatype text hole) a b c d e f g h = absurd (h text hole refl)
+is_outer _ a b c d e f g h = tt
+
+pub outer_waits : (next : Expected) (outer : List Hole) (kind : TokenKind) (leaf : Leaf) (st : State) → IsOuter next → next ≢ expect.Statement → ((dot : Bool) → next ≢ expect.Prefix dot)
+    → ((dot : Bool) (prefix : List ℕ) → next ≢ expect.Namespace dot prefix) → ((dot : Bool) → next ≢ expect.Base dot) → next ≢ expect.DirectiveDot
+    → plain_move next outer kind leaf st ≡ stuck
+unfolding plain_move
+outer_waits expect.Statement outer kind leaf st o a b c d e = absurd (a refl)
+outer_waits (expect.Prefix dot) outer kind leaf st o a b c d e = absurd (b dot refl)
+outer_waits (expect.Namespace dot prefix) outer kind leaf st o a b c d e = absurd (c dot prefix refl)
+outer_waits (expect.Base dot) outer kind leaf st o a b c d e = absurd (d dot refl)
+outer_waits expect.DirectiveDot outer kind leaf st o a b c d e = absurd (e refl)
+outer_waits (expect.Suffix text at hole) outer kind leaf st o a b c d e = refl
+outer_waits _ outer kind leaf st o a b c d e = absurd o

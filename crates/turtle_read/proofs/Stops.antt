@@ -1,11 +1,13 @@
 -- A fault of a part is one of the whole.
-use Rattle.std.proofs.Common.{◌≡◌, ℕ, refl, ap, sym, subst, ◌∙◌, Result, Ok, Err, IsErrAnd, Option, None, Some, List}
+use Rattle.std.proofs.Common.{◌≡◌, ℕ, refl, ap, sym, subst, ◌∙◌, Result, Ok, Err, IsErrAnd, IfErr, Option, None, Some, List}
 use Rattle.turtle_document.specs.Meaning.{Fault, State, ◌>>=◌, name_of}
 use Rattle.turtle_document.specs.Meaning.Fault.{no_prefix, bad_iri, too_deep, full_store}
 use Rattle.turtle_document.specs.Machine.{Config, Move, on, started_name}
-use Rattle.turtle_document.specs.Machine.Move.{fails}
-use Rattle.turtle_grammar.specs.Tree.{Name}
-use Rattle.turtle_read.specs.Faults.{Refuses, Gives, Stops, Follows}
+use Rattle.turtle_document.specs.Machine.Move.{stuck, fails}
+use Rattle.turtle_grammar.specs.Tree.{Name, Leaf}
+use Rattle.turtle_grammar.specs.declared.token.TokenKind.{TokenKind}
+use Rattle.turtle_read.specs.Faults.{Refuses, Gives, Stops, Follows, NamesNone}
+use Rattle.turtle_read.specs.Moves.{named}
 use Rattle.turtle_read.specs.Names.{iri_of}
 use Rattle.turtle_read.specs.declared.token_fault.TokenFault.{TokenFault}
 use Rattle.turtle_read.specs.declared.token_fault.TokenFault.TheVariants.{Syntax, NoPrefix, BadIri, Depth, StoreFull, NoMemory}
@@ -92,3 +94,27 @@ pub gives_fault : {T A : Type 0} (value : T → A) (r : Result T TokenFault) (fa
     → IsErrAnd r (λ made. made ≡ fault) → Refuses fault (λ f. m ≡ Err f) → Gives value r m
 gives_fault value (Ok x) fault m h s = absurd h
 gives_fault value (Err made) fault m h s = let P : TokenFault → Type 0 = λ g. Refuses g (λ f. m ≡ Err f) in subst P (sym h) s
+
+-- a fault of a name
+pub names_fault : (at : ℕ) (fault : TokenFault) (kind : TokenKind) (leaf : Leaf) (st : State) → Refuses fault (λ f. named kind leaf st ≡ Err f) → NamesNone at kind leaf st fault
+names_fault at (Syntax place) kind leaf st h = absurd h
+names_fault at (NoPrefix place) kind leaf st h = h
+names_fault at (BadIri place) kind leaf st h = h
+names_fault at (Depth place) kind leaf st h = h
+names_fault at (StoreFull place) kind leaf st h = h
+names_fault at NoMemory kind leaf st h = tt
+
+-- what hands on the fault that `?` hands on
+pub names_residual : {T : Type 0} (at : ℕ) (r : Result T TokenFault) (fault : TokenFault) (kind : TokenKind) (leaf : Leaf) (st : State)
+    → IsErrAnd r (λ made. made ≡ fault) → NamesNone at kind leaf st fault → IfErr r (NamesNone at kind leaf st)
+names_residual at (Ok x) fault kind leaf st h s = absurd h
+names_residual at (Err made) fault kind leaf st h s = let P : TokenFault → Type 0 = λ f. NamesNone at kind leaf st f in subst P (sym h) s
+
+pub stops_unnamed : (at : ℕ) (fault : TokenFault) (kind : TokenKind) (leaf : Leaf) (st : State) (m : Move) → NamesNone at kind leaf st fault
+    → (named kind leaf st ≡ Ok None → m ≡ stuck) → ((f : Fault) → named kind leaf st ≡ Err f → m ≡ fails f) → Stops at fault m
+stops_unnamed at (Syntax place) kind leaf st m h none faulty = (h.0, none h.1)
+stops_unnamed at (NoPrefix place) kind leaf st m h none faulty = faulty (no_prefix place) h
+stops_unnamed at (BadIri place) kind leaf st m h none faulty = faulty (bad_iri place) h
+stops_unnamed at (Depth place) kind leaf st m h none faulty = faulty (too_deep place) h
+stops_unnamed at (StoreFull place) kind leaf st m h none faulty = faulty (full_store place) h
+stops_unnamed at NoMemory kind leaf st m h none faulty = tt

@@ -1,10 +1,12 @@
 -- What a reader's answers say in the words of documents' meaning.
-use Rattle.std.specs.Prelude.{◌≡◌, ℕ, Result, Ok, Err}
+use Rattle.std.specs.Prelude.{◌≡◌, ℕ, None, Result, Ok, Err}
 use Rattle.turtle_document.specs.Meaning.{Fault, State}
 use Rattle.turtle_document.specs.Meaning.Fault.{no_prefix, bad_iri, too_deep, full_store}
 use Rattle.turtle_document.specs.Machine.{Config, Move}
 use Rattle.turtle_document.specs.Machine.Move.{to, stuck, fails}
 use Rattle.turtle_grammar.specs.Tree.{Leaf}
+use Rattle.turtle_grammar.specs.declared.token.TokenKind.{TokenKind}
+use Rattle.turtle_read.specs.Moves.{named}
 use Rattle.turtle_read.specs.declared.fault.TurtleFault.{TurtleFault}
 use Rattle.turtle_read.specs.declared.fault.TurtleFault.TheVariants as whole
 use Rattle.turtle_read.specs.declared.lexeme.Lexeme.{Lexeme}
@@ -55,3 +57,12 @@ Follows at (Err fault) after st m = Stops at fault m
 -- The same of what no token can't follow: it is so wherever the token stands.
 abbrev pub Leads : {T : Type 0} → Result T TokenFault → Config → State → Move → Type 0
 Leads result after st m = (at : ℕ) → Follows at result after st m
+
+-- A token that has to name something and doesn't: it is no name, or its name has a fault. Want of memory says nothing.
+abbrev pub NamesNone : ℕ → TokenKind → Leaf → State → TokenFault → Type 0
+NamesNone at kind leaf st (Syntax place) = (place ≡ at) × (named kind leaf st ≡ Ok None)
+NamesNone at kind leaf st (NoPrefix place) = named kind leaf st ≡ Err (no_prefix place)
+NamesNone at kind leaf st (BadIri place) = named kind leaf st ≡ Err (bad_iri place)
+NamesNone at kind leaf st (Depth place) = named kind leaf st ≡ Err (too_deep place)
+NamesNone at kind leaf st (StoreFull place) = named kind leaf st ≡ Err (full_store place)
+NamesNone at kind leaf st NoMemory = Unit {0}

@@ -7,3 +7,4 @@ pub mod Vocabularies
 pub mod Moves
 pub mod Tokens
 pub mod Recents
+pub mod Rooms

@@ -123,3 +123,13 @@ after_string kind leaf text at hole outer st = machine.after_string kind leaf te
 
 unfoldable pub move : Config → TokenKind → Leaf → State → Move
 move c kind leaf st = machine.move c kind leaf st
+
+-- what comes next where no triples are open, or a string that waits
+abbrev pub IsOuter : Expected → Type 0
+IsOuter expect.Statement = Unit {0}
+IsOuter (expect.Prefix dot) = Unit {0}
+IsOuter (expect.Namespace dot prefix) = Unit {0}
+IsOuter (expect.Base dot) = Unit {0}
+IsOuter expect.DirectiveDot = Unit {0}
+IsOuter (expect.Suffix text at hole) = Unit {0}
+IsOuter _ = ⊥

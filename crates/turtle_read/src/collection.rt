@@ -22,10 +22,12 @@ fn first_of(chain: Chain, node: u32) -> u32
 }
 
 impl Reader {
-    ghost use Rattle.std.specs.Prelude.{◌≡◌, length, IfOk};
+    ghost use Rattle.std.specs.Prelude.{◌≡◌, length, IfOk, ◌^◌, ◌<◌};
     ghost use Rattle.turtle_document.specs.Machine.{collection_of};
     ghost use Rattle.turtle_read.specs.Moves as machine;
     ghost use Rattle.turtle_read.specs.Faults.{leaf_of, Follows, Gives};
+    ghost use Rattle.turtle_document.specs.Below.{ChainBelow};
+    ghost use Rattle.turtle_read.specs.Rooms.{HasRoom};
     ghost use Rattle.turtle_read.specs.Readers.{config_of, inside, kept};
 
     // An item of a collection, or its end.
@@ -34,6 +36,8 @@ impl Reader {
         token: Lexeme<'_>,
         chain: Chain,
     ) -> Result<(), TokenFault>
+        requires room { HasRoom 2 (inside self.old) }
+        requires chain { ChainBelow (2 ^ 31) chain }
         ensures moves { Follows token.entry.at result (config_of self.new) (inside self.new) (machine.in_collection token.entry.kind (leaf_of token.entry) chain self.old.outer (inside self.old)) }
         ensures kept { kept self.new ≡ kept self.old }
     {
@@ -65,6 +69,7 @@ impl Reader {
 
     // The last node of a collection has nothing as its rest.
     fn end_chain(&mut self, chain: Chain, at: usize) -> Result<(), TokenFault>
+        requires chain { ChainBelow (2 ^ 31) chain }
         ensures value { Gives (λ _. inside self.new) result (machine.ended chain at (inside self.old)) }
         ensures same { config_of self.new ≡ config_of self.old }
         ensures kept { kept self.new ≡ kept self.old }
@@ -79,6 +84,8 @@ impl Reader {
 
     // The last node of a collection so far has the next one as its rest.
     fn link(&mut self, chain: Chain, at: usize, node: u32) -> Result<(), TokenFault>
+        requires chain { ChainBelow (2 ^ 31) chain }
+        requires node { node < 2 ^ 31 }
         ensures value { Gives (λ _. inside self.new) result (machine.linked chain at node (inside self.old)) }
         ensures same { config_of self.new ≡ config_of self.old }
         ensures kept { kept self.new ≡ kept self.old }
@@ -93,11 +100,13 @@ impl Reader {
 
     // An item's first token, which has its fault before the item has its node.
     fn begin_item(&mut self, token: Lexeme<'_>, chain: Chain) -> Result<(), TokenFault>
+        requires room { HasRoom 2 (inside self.old) }
+        requires chain { ChainBelow (2 ^ 31) chain }
         ensures moves { Follows token.entry.at result (config_of self.new) (inside self.new) (machine.begin_item token.entry.kind (leaf_of token.entry) chain self.old.outer (inside self.old)) }
         ensures kept { kept self.new ≡ kept self.old }
     {
         self.may_start(token)?;
-        let node = self.environment.number()?;
+        let node = self.environment.number();
         self.link(chain, token.at, node)?;
         let first = first_of(chain, node);
         self.begin_object(token, Hole::Item { first, node })

@@ -23,10 +23,12 @@ impl Reader {
     ghost use Rattle.std.specs.Prelude.{◌≡◌};
     ghost use Rattle.turtle_read.specs.Moves as machine;
     ghost use Rattle.turtle_read.specs.Faults.{leaf_of, Follows};
+    ghost use Rattle.turtle_read.specs.Rooms.{HasRoom};
     ghost use Rattle.turtle_read.specs.Readers.{config_of, inside, kept};
 
     // A statement's first token.
     pub(crate) fn at_statement(&mut self, token: Lexeme<'_>) -> Result<(), TokenFault>
+        requires room { HasRoom 1 (inside self.old) }
         ensures moves { Follows token.entry.at result (config_of self.new) (inside self.new) (machine.at_statement token.entry.kind (leaf_of token.entry) self.old.outer (inside self.old)) }
         ensures kept { kept self.new ≡ kept self.old }
     {

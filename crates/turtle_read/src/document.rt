@@ -1,5 +1,7 @@
-ghost use Rattle.std.specs.Prelude.{◌≡◌, ◌⊎◌, [], true, is_some, Err, OnOk, OnErr, IfErr};
+ghost use Rattle.std.specs.Prelude.{◌≡◌, ◌⊎◌, ◌^◌, ℕ, List, [], true, is_some, Err, OnOk, OnErr, IfErr};
 ghost use Rattle.iri_resolve.specs.Components.{scheme_of};
+ghost use Rattle.triple_store.specs.declared.term.Triple.{Triple};
+ghost use Rattle.turtle_document.specs.Below.{NextBelow};
 ghost use Rattle.turtle_document.specs.Answer.{Outcome, IsReadAs};
 ghost use Rattle.turtle_document.specs.Meaning.{beginning};
 ghost use Rattle.turtle_document.specs.Numbers.{HaveFewNumbers};
@@ -8,6 +10,7 @@ ghost use Rattle.turtle_read.specs.Answers.{Tells, ReadsDocument, answer_of};
 ghost use Rattle.turtle_read.specs.Faults.{Follows};
 ghost use Rattle.turtle_read.specs.Moves as machine;
 ghost use Rattle.turtle_read.specs.Readers.{config_of, inside, kept};
+ghost use Rattle.turtle_read.specs.Rooms.{HasRoom};
 ghost use Rattle.turtle_read.specs.Tokens.{IsTokenOf, leaf_in};
 
 use crate::TurtleFault;
@@ -47,7 +50,8 @@ pub fn read(alloc: Global, base: &Text, bytes: &[u8], store: &mut Store) -> Resu
 
 // Reads a document that is UTF-8.
 fn read_text(alloc: Global, base: &Text, text: &str, store: &mut Store) -> Result<u32, TurtleFault>
-    requires { is_some (scheme_of base.now) ≡ true }
+    requires scheme { is_some (scheme_of base.now) ≡ true }
+    requires few { HaveFewNumbers store.old }
     ensures { ReadsDocument (beginning base.now store.old) text.now result store.new }
 {
     let base = base.clone()?;
@@ -69,6 +73,7 @@ fn read_text(alloc: Global, base: &Text, text: &str, store: &mut Store) -> Resul
 fn read_all(reader: Reader, text: &str, store: &mut Store) -> Result<(), TurtleFault>
     requires next { reader.next ≡ expect.Statement }
     requires outer { reader.outer ≡ [] }
+    requires begun { (base : List ℕ) × (rows : List Triple) × (inside reader ≡ beginning base rows) × HaveFewNumbers rows }
     ensures ok { OnOk result (IsReadAs (inside reader) text.now (Outcome.document store.new)) }
     ensures err { IfErr result (Tells (IsReadAs (inside reader) text.now)) }
     ensures rows { OnErr result (store.new ≡ kept reader) }
@@ -90,6 +95,7 @@ fn read_all(reader: Reader, text: &str, store: &mut Store) -> Result<(), TurtleF
 fn take_tokens(reader: &mut Reader, text: &str) -> Result<(), TurtleFault>
     requires next { reader.old.next ≡ expect.Statement }
     requires outer { reader.old.outer ≡ [] }
+    requires begun { (base : List ℕ) × (rows : List Triple) × (inside reader.old ≡ beginning base rows) × HaveFewNumbers rows }
     ensures ok { OnOk result (IsReadAs (inside reader.old) text.now (Outcome.document (inside reader.new).rows)) }
     ensures err { IfErr result (Tells (IsReadAs (inside reader.old) text.now)) }
     ensures kept { kept reader.new ≡ kept reader.old }
@@ -107,7 +113,9 @@ fn take_tokens(reader: &mut Reader, text: &str) -> Result<(), TurtleFault>
 #[inline(always)]
 // Takes a token of a text.
 fn take_token(reader: &mut Reader, text: &str, token: Token) -> Result<(), TokenFault>
-    requires { IsTokenOf text.now token }
+    requires token { IsTokenOf text.now token }
+    requires next { NextBelow (2 ^ 31) reader.old.next }
+    requires room { HasRoom 2 (inside reader.old) }
     ensures moves { Follows token.at result (config_of reader.new) (inside reader.new) (machine.move (config_of reader.old) token.kind (leaf_in text.now token) (inside reader.old)) }
     ensures kept { kept reader.new ≡ kept reader.old }
 {

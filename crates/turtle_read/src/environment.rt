@@ -1,8 +1,7 @@
-ghost use Rattle.std.specs.Prelude.{◌≡◌, ◌≤◌, ◌^◌, ◌↔◌, IsTrue, true, is_some, length};
+ghost use Rattle.std.specs.Prelude.{◌≡◌, ◌≤◌, true, is_some, length};
 ghost use Rattle.iri_resolve.specs.Components.{scheme_of};
 ghost use Rattle.indexmap.specs.IndexMap.{get};
 ghost use Rattle.std.specs.Str.{bytes_eq};
-ghost use Rattle.triple_store.specs.Triples.{blanks_of_triple, blanks_of_term};
 ghost use Rattle.triple_store.specs.declared.fault.TheConstants.{MOST_ROWS};
 ghost use Rattle.turtle_read.specs.Recents.{AreKnown};
 
@@ -18,9 +17,6 @@ use std::alloc::Global;
 use std::mem;
 use triple_store::{Store, StoreFault, Term, Triple};
 use turtle_grammar::TokenKind;
-
-// The store takes numbers of blank nodes below this one.
-const MOST_BLANKS: u32 = 1 << 31;
 
 /// What a statement is read in: the base, what prefixes and labels stand for, the next number of a blank node, and the triples.
 #[derive(Drop)]
@@ -41,23 +37,10 @@ pub struct Environment {
     ghost room: { length store ≤ MOST_ROWS },
 }
 
-fn is_numbered(term: &Term) -> bool
-    ensures { IsTrue result ↔ (blanks_of_term term.now ≤ 2 ^ 31) }
-{
-    match term {
-        Term::Blank(number) => *number < MOST_BLANKS,
-        _ => true,
-    }
-}
-
-fn are_numbered(triple: &Triple) -> bool
-    ensures { IsTrue result ↔ (blanks_of_triple triple.now ≤ 2 ^ 31) }
-{
-    is_numbered(&triple.s) && is_numbered(&triple.p) && is_numbered(&triple.o)
-}
-
 impl Environment {
-    ghost use Rattle.std.specs.Prelude.{◌≡◌, true, is_some, IfOk, OnOk};
+    ghost use Rattle.std.specs.Prelude.{◌≡◌, ◌<◌, ◌^◌, true, is_some, IfOk, OnOk};
+    ghost use Rattle.turtle_document.specs.Below.{IsBelow};
+    ghost use Rattle.turtle_read.specs.Rooms.{HasRoom};
     ghost use Rattle.iri_resolve.specs.Components.{scheme_of};
     ghost use Rattle.turtle_document.specs.Meaning as meaning;
     ghost use Rattle.turtle_read.specs.Moves as moves;
@@ -92,14 +75,13 @@ impl Environment {
     #[tactic(auto, using(crate::proofs::Adds::kept_added, crate::proofs::Adds::held_added, crate::proofs::Adds::kept_same), unfolding(crate::specs::States::kept_of))]
     /// Adds a triple, once its object has been read up to the token at `at`.
     pub fn add(&mut self, at: usize, s: Term, p: Term, o: Term) -> Result<(), TokenFault>
+        requires s { IsBelow (2 ^ 31) s }
+        requires p { IsBelow (2 ^ 31) p }
+        requires o { IsBelow (2 ^ 31) o }
         ensures value { Gives (λ _. state_of self.new) result (moves.add at s p o (state_of self.old)) }
         ensures kept { kept_of self.new ≡ kept_of self.old }
     {
-        let triple = Triple { s, p, o };
-        if !are_numbered(&triple) {
-            return Err(TokenFault::NoMemory);
-        }
-        match self.store.add(triple) {
+        match self.store.add(Triple { s, p, o }) {
             Ok(_) => Ok(()),
             Err(StoreFault::Full) => Err(TokenFault::StoreFull(at)),
             Err(StoreFault::NoMemory) => Err(TokenFault::NoMemory),
@@ -108,29 +90,29 @@ impl Environment {
 
     #[tactic(auto, unfolding(crate::specs::States::kept_of))]
     /// The number of a new blank node.
-    pub fn number(&mut self) -> Result<u32, NoMemory>
-        ensures number { IfOk result (λ node. node ≡ self.old.blanks) }
-        ensures next { OnOk result (state_of self.new ≡ numbered (state_of self.old)) }
+    pub fn number(&mut self) -> u32
+        requires { self.old.blanks < 2 ^ 31 }
+        ensures number { result ≡ self.old.blanks }
+        ensures next { state_of self.new ≡ numbered (state_of self.old) }
         ensures kept { kept_of self.new ≡ kept_of self.old }
     {
         let node = self.blanks;
-        let Some(next) = node.checked_add(1) else {
-            return Err(NoMemory);
-        };
-        self.blanks = next;
-        Ok(node)
+        self.blanks = node + 1;
+        node
     }
 
     #[tactic(auto, unfolding(crate::specs::States::kept_of))]
     /// The blank node of a label, numbered at its first use.
     pub fn labelled(&mut self, label: &str) -> Result<Term, NoMemory>
+        requires { HasRoom 1 (state_of self.old) }
+        ensures small { IfOk result (IsBelow (2 ^ 31)) }
         ensures value { IfOk result (λ term. meaning.labelled label.now (state_of self.old) ≡ meaning.read term (state_of self.new)) }
         ensures kept { kept_of self.new ≡ kept_of self.old }
     {
         if let Some(number) = self.labels.get(Name(label)) {
             return Ok(Term::Blank(*number));
         }
-        let number = self.number()?;
+        let number = self.number();
         let label = Text::from_str(self.alloc, label)?;
         self.labels.insert(label, number)?;
         Ok(Term::Blank(number))

@@ -22,7 +22,7 @@ pub enum TurtleFault {
     Depth(usize),
     /// A triple that is new belongs here, and the store is full.
     StoreFull(usize),
-    /// Memory was refused, or there are no numbers left for blank nodes.
+    /// Memory was refused.
     NoMemory,
 }
 

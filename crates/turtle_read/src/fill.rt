@@ -7,18 +7,21 @@ use turtle_document::{Chain, Expected, Hole};
 const MOST_OPEN: usize = 256;
 
 impl Reader {
-    ghost use Rattle.std.specs.Prelude.{◌≡◌, [], length};
+    ghost use Rattle.std.specs.Prelude.{◌≡◌, [], length, ◌^◌, ◌<◌};
     ghost use Rattle.triple_store.specs.declared.term.Term.TheVariants as terms;
     ghost use Rattle.turtle_document.specs.Vocabulary.{xsd_string};
     ghost use Rattle.turtle_read.specs.Moves.{filled, closed, add};
     ghost use Rattle.turtle_document.specs.Meaning as meaning;
     ghost use Rattle.turtle_document.specs.Meaning.{may_open};
     ghost use Rattle.turtle_read.specs.Faults.{Follows, Leads, Gives};
+    ghost use Rattle.turtle_document.specs.Below.{IsBelow, HoleBelow};
     ghost use Rattle.turtle_read.specs.Readers.{config_of, inside, kept};
 
     // Fills a hole with a term whose last token stands at `at`.
     #[inline(always)]
     pub(crate) fn fill(&mut self, hole: Hole, at: usize, term: Term) -> Result<(), TokenFault>
+        requires hole { HoleBelow (2 ^ 31) hole }
+        requires term { IsBelow (2 ^ 31) term }
         ensures moves { Leads result (config_of self.new) (inside self.new) (filled hole at term self.old.outer (inside self.old)) }
         ensures kept { kept self.new ≡ kept self.old }
     {
@@ -44,6 +47,7 @@ impl Reader {
         text: Text,
         datatype: Text,
     ) -> Result<(), TokenFault>
+        requires hole { HoleBelow (2 ^ 31) hole }
         ensures moves { Leads result (config_of self.new) (inside self.new) (filled hole at (terms.Literal text datatype []) self.old.outer (inside self.old)) }
         ensures kept { kept self.new ≡ kept self.old }
     {
@@ -53,6 +57,7 @@ impl Reader {
 
     // Fills a hole with a string alone.
     pub(crate) fn fill_plain(&mut self, hole: Hole, at: usize, text: Text) -> Result<(), TokenFault>
+        requires hole { HoleBelow (2 ^ 31) hole }
         ensures moves { Leads result (config_of self.new) (inside self.new) (filled hole at (terms.Literal text xsd_string []) self.old.outer (inside self.old)) }
         ensures kept { kept self.new ≡ kept self.old }
     {
@@ -68,6 +73,9 @@ impl Reader {
         at: usize,
         term: Term,
     ) -> Result<(), TokenFault>
+        requires subject { IsBelow (2 ^ 31) subject }
+        requires predicate { IsBelow (2 ^ 31) predicate }
+        requires term { IsBelow (2 ^ 31) term }
         ensures moves { Leads result (config_of self.new) (inside self.new) (filled (Hole.Object subject predicate) at term self.old.outer (inside self.old)) }
         ensures kept { kept self.new ≡ kept self.old }
     {
@@ -85,6 +93,9 @@ impl Reader {
         at: usize,
         term: Term,
     ) -> Result<(), TokenFault>
+        requires subject { IsBelow (2 ^ 31) subject.now }
+        requires predicate { IsBelow (2 ^ 31) predicate.now }
+        requires term { IsBelow (2 ^ 31) term }
         ensures value { Gives (λ _. inside self.new) result (add at subject.now predicate.now term (inside self.old)) }
         ensures same { config_of self.new ≡ config_of self.old }
         ensures kept { kept self.new ≡ kept self.old }
@@ -95,6 +106,8 @@ impl Reader {
     }
 
     fn add_item(&mut self, first: u32, node: u32, at: usize, term: Term) -> Result<(), TokenFault>
+        requires node { node < 2 ^ 31 }
+        requires term { IsBelow (2 ^ 31) term }
         ensures moves { Leads result (config_of self.new) (inside self.new) (filled (Hole.Item first node) at term self.old.outer (inside self.old)) }
         ensures kept { kept self.new ≡ kept self.old }
     {
@@ -108,6 +121,7 @@ impl Reader {
 
     // Fills the innermost hole.
     pub(crate) fn close(&mut self, at: usize, term: Term) -> Result<(), TokenFault>
+        requires term { IsBelow (2 ^ 31) term }
         ensures moves { Follows at result (config_of self.new) (inside self.new) (closed at term self.old.outer (inside self.old)) }
         ensures kept { kept self.new ≡ kept self.old }
     {

@@ -1,4 +1,5 @@
-ghost use Rattle.std.specs.Prelude.{◌≡◌, ◌∷◌, ◌==◌, [], length, MatchOption, OnOk, IfOk};
+ghost use Rattle.std.specs.Prelude.{◌≡◌, ◌∷◌, ◌==◌, ◌^◌, [], length, MatchOption, OnOk, IfSome};
+ghost use Rattle.turtle_document.specs.Below.{HoleBelow};
 ghost use Rattle.turtle_document.specs.Machine.{listed};
 
 use lv_base::NoMemory;
@@ -14,12 +15,15 @@ pub struct Holes {
 }
 
 impl Model for Holes {
-    ghost use Rattle.std.specs.Prelude.{List, reverse};
+    ghost use Rattle.std.specs.Prelude.{List, reverse, ◌^◌};
+    ghost use Rattle.turtle_document.specs.Below.{HolesBelow};
     ghost use Rattle.turtle_document.specs.declared.expected.Hole.{Hole};
 
     ghost Value = { List Hole };
 
     ghost view = { λ holes. reverse holes.items.items };
+
+    ghost invariant = { λ holes. HolesBelow (2 ^ 31) (reverse holes.items.items) };
 }
 
 impl Holes {
@@ -44,6 +48,7 @@ impl Holes {
     }
 
     pub fn push(&mut self, hole: Hole) -> Result<(), NoMemory>
+        requires { HoleBelow (2 ^ 31) hole }
         ensures { OnOk result (self.new ≡ hole ∷ self.old) }
     {
         self.items.push(hole)?;
@@ -51,7 +56,8 @@ impl Holes {
     }
 
     pub fn pop(&mut self) -> Option<Hole>
-        ensures { MatchOption result ((self.old ≡ []) × (self.new ≡ [])) (λ hole. self.old ≡ hole ∷ self.new) }
+        ensures pops { MatchOption result ((self.old ≡ []) × (self.new ≡ [])) (λ hole. self.old ≡ hole ∷ self.new) }
+        ensures small { IfSome result (HoleBelow (2 ^ 31)) }
     {
         self.items.pop()
     }

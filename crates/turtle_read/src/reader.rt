@@ -25,10 +25,13 @@ pub struct Reader {
 }
 
 impl Reader {
-    ghost use Rattle.std.specs.Prelude.{◌≡◌, [], IfOk};
+    ghost use Rattle.std.specs.Prelude.{◌≡◌, [], IfOk, ◌^◌};
     ghost use Rattle.turtle_document.specs.declared.expected.Expected.TheVariants as expect;
     ghost use Rattle.turtle_read.specs.Moves as machine;
+    ghost use Rattle.turtle_read.specs.Moves.{IsOuter};
     ghost use Rattle.turtle_read.specs.Faults.{leaf_of, Follows};
+    ghost use Rattle.turtle_document.specs.Below.{NextBelow};
+    ghost use Rattle.turtle_read.specs.Rooms.{HasRoom};
     ghost use Rattle.turtle_read.specs.Readers.{config_of, inside, kept};
 
     /// A reader before a document's first token.
@@ -110,6 +113,8 @@ impl Reader {
     #[inline(always)]
     /// Reads one token more.
     pub fn step(&mut self, token: Lexeme<'_>) -> Result<(), TokenFault>
+        requires next { NextBelow (2 ^ 31) self.old.next }
+        requires room { HasRoom 2 (inside self.old) }
         ensures moves { Follows token.entry.at result (config_of self.new) (inside self.new) (machine.move (config_of self.old) token.entry.kind (leaf_of token.entry) (inside self.old)) }
         ensures kept { kept self.new ≡ kept self.old }
     {
@@ -122,15 +127,12 @@ impl Reader {
     // A token where no string waits for what follows it.
     #[inline(always)]
     pub(crate) fn plain_step(&mut self, token: Lexeme<'_>, next: Expected) -> Result<(), TokenFault>
+        requires next { NextBelow (2 ^ 31) next }
+        requires room { HasRoom 2 (inside self.old) }
         ensures moves { Follows token.entry.at result (config_of self.new) (inside self.new) (machine.plain_move next self.old.outer token.entry.kind (leaf_of token.entry) (inside self.old)) }
         ensures kept { kept self.new ≡ kept self.old }
     {
         match next {
-            Expected::Statement => self.at_statement(token),
-            Expected::Prefix { dot } => self.at_prefix(token, dot),
-            Expected::Namespace { dot, prefix } => self.at_namespace(token, dot, prefix),
-            Expected::Base { dot } => self.at_base(token, dot),
-            Expected::DirectiveDot => self.at_dot(token),
             Expected::Verb { subject } => self.at_verb(token, subject),
             Expected::AfterSemicolon { subject } => self.after_semicolon(token, subject),
             Expected::AfterObject { subject, predicate } => {
@@ -143,7 +145,28 @@ impl Reader {
             Expected::Item { chain } => self.in_collection(token, chain),
             Expected::Property { node } => self.in_brackets(token, node),
             Expected::Datatype { text, hole } => self.typed_by(token, text, hole),
-            Expected::Suffix { .. } => Err(TokenFault::Syntax(token.at)),
+            next => self.outer_step(token, next),
+        }
+    }
+
+    // A token where no triples are open.
+    #[inline(always)]
+    fn outer_step(&mut self, token: Lexeme<'_>, next: Expected) -> Result<(), TokenFault>
+        requires outer { IsOuter next }
+        requires room { HasRoom 1 (inside self.old) }
+        ensures moves { Follows token.entry.at result (config_of self.new) (inside self.new) (machine.plain_move next self.old.outer token.entry.kind (leaf_of token.entry) (inside self.old)) }
+        ensures kept { kept self.new ≡ kept self.old }
+    {
+        match next {
+            Expected::Statement => self.at_statement(token),
+            Expected::Prefix { dot } => self.at_prefix(token, dot),
+            Expected::Namespace { dot, prefix } => self.at_namespace(token, dot, prefix),
+            Expected::Base { dot } => self.at_base(token, dot),
+            Expected::DirectiveDot => self.at_dot(token),
+            waits => {
+                mem::drop(waits);
+                Err(TokenFault::Syntax(token.at))
+            }
         }
     }
 }

@@ -9,13 +9,15 @@ use turtle_document::{Expected, Hole};
 use turtle_grammar::TokenKind;
 
 impl Reader {
-    ghost use Rattle.std.specs.Prelude.{◌≡◌, ◌≢◌, IfOk};
+    ghost use Rattle.std.specs.Prelude.{◌≡◌, ◌≢◌, Some, Ok, IfOk, IfErr, ◌^◌};
     ghost use Rattle.triple_store.specs.declared.term.Term.TheVariants as terms;
     ghost use Rattle.turtle_document.specs.Vocabulary.{rdf_lang_string};
     ghost use Rattle.turtle_grammar.specs.Value.{tag_of};
     ghost use Rattle.turtle_grammar.specs.declared.token.TokenKind.TheVariants as kinds;
     ghost use Rattle.turtle_read.specs.Moves as machine;
-    ghost use Rattle.turtle_read.specs.Faults.{leaf_of, Follows, Leads};
+    ghost use Rattle.turtle_read.specs.Faults.{leaf_of, Follows, Leads, NamesNone};
+    ghost use Rattle.turtle_document.specs.Below.{HoleBelow};
+    ghost use Rattle.turtle_read.specs.Rooms.{HasRoom};
     ghost use Rattle.turtle_read.specs.Readers.{config_of, inside, kept};
 
     // What may follow a string: a language tag, `^^`, or what follows an object that is the string alone.
@@ -26,6 +28,8 @@ impl Reader {
         at: usize,
         hole: Hole,
     ) -> Result<(), TokenFault>
+        requires room { HasRoom 2 (inside self.old) }
+        requires hole { HoleBelow (2 ^ 31) hole }
         ensures moves { Follows token.entry.at result (config_of self.new) (inside self.new) (machine.after_string token.entry.kind (leaf_of token.entry) text at hole self.old.outer (inside self.old)) }
         ensures kept { kept self.new ≡ kept self.old }
     {
@@ -41,6 +45,7 @@ impl Reader {
 
     // The language tag of a string.
     fn tagged_by(&mut self, token: Lexeme<'_>, text: Text, hole: Hole) -> Result<(), TokenFault>
+        requires hole { HoleBelow (2 ^ 31) hole }
         ensures moves { Leads result (config_of self.new) (inside self.new) (machine.filled hole token.entry.at (terms.Literal text rdf_lang_string (tag_of token.entry.text.now)) self.old.outer (inside self.old)) }
         ensures kept { kept self.new ≡ kept self.old }
     {
@@ -64,6 +69,8 @@ impl Reader {
         at: usize,
         hole: Hole,
     ) -> Result<(), TokenFault>
+        requires room { HasRoom 2 (inside self.old) }
+        requires hole { HoleBelow (2 ^ 31) hole }
         requires untagged { token.kind ≢ kinds.LanguageTag }
         requires untyped { token.kind ≢ kinds.DoubleCaret }
         ensures moves { Follows token.entry.at result (config_of self.new) (inside self.new) (machine.after_string token.entry.kind (leaf_of token.entry) text at hole self.old.outer (inside self.old)) }
@@ -103,11 +110,24 @@ impl Reader {
         text: Text,
         hole: Hole,
     ) -> Result<(), TokenFault>
+        requires hole { HoleBelow (2 ^ 31) hole }
         ensures moves { Follows token.entry.at result (config_of self.new) (inside self.new) (machine.typed_by token.entry.kind (leaf_of token.entry) text hole self.old.outer (inside self.old)) }
         ensures kept { kept self.new ≡ kept self.old }
     {
+        let datatype = self.datatype(token)?;
+        self.fill_typed(hole, token.at, text, datatype)
+    }
+
+    // The IRI of a datatype.
+    fn datatype(&mut self, token: Lexeme<'_>) -> Result<Text, TokenFault>
+        ensures ok { IfOk result (λ iri. machine.named token.entry.kind (leaf_of token.entry) (inside self.old) ≡ Ok (Some iri)) }
+        ensures err { IfErr result (NamesNone token.entry.at token.entry.kind (leaf_of token.entry) (inside self.old)) }
+        ensures state { inside self.new ≡ inside self.old }
+        ensures same { config_of self.new ≡ config_of self.old }
+        ensures kept { kept self.new ≡ kept self.old }
+    {
         match self.environment.iri_of(token, Recurs::Often)? {
-            Some(datatype) => self.fill_typed(hole, token.at, text, datatype),
+            Some(datatype) => Ok(datatype),
             None => Err(TokenFault::Syntax(token.at)),
         }
     }

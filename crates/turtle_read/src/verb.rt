@@ -7,9 +7,10 @@ use turtle_document::{Expected, Hole};
 use turtle_grammar::TokenKind;
 
 impl Reader {
-    ghost use Rattle.std.specs.Prelude.{◌≡◌};
+    ghost use Rattle.std.specs.Prelude.{◌≡◌, ◌^◌, ◌<◌};
     ghost use Rattle.turtle_read.specs.Moves as machine;
     ghost use Rattle.turtle_read.specs.Faults.{leaf_of, Follows};
+    ghost use Rattle.turtle_document.specs.Below.{IsBelow};
     ghost use Rattle.turtle_read.specs.Readers.{config_of, inside, kept};
 
     // A verb.
@@ -47,6 +48,7 @@ impl Reader {
 
     // The end of what is said of a subject.
     fn at_end(&mut self, token: Lexeme<'_>, subject: Term) -> Result<(), TokenFault>
+        requires subject { IsBelow (2 ^ 31) subject }
         ensures moves { Follows token.entry.at result (config_of self.new) (inside self.new) (machine.at_end token.entry.kind (leaf_of token.entry) subject self.old.outer (inside self.old)) }
         ensures kept { kept self.new ≡ kept self.old }
     {
@@ -78,6 +80,7 @@ impl Reader {
         subject: Term,
         predicate: Term,
     ) -> Result<(), TokenFault>
+        requires subject { IsBelow (2 ^ 31) subject }
         ensures moves { Follows token.entry.at result (config_of self.new) (inside self.new) (machine.after_object token.entry.kind (leaf_of token.entry) subject predicate self.old.outer (inside self.old)) }
         ensures kept { kept self.new ≡ kept self.old }
     {
@@ -101,6 +104,7 @@ impl Reader {
         token: Lexeme<'_>,
         subject: Term,
     ) -> Result<(), TokenFault>
+        requires subject { IsBelow (2 ^ 31) subject }
         ensures moves { Follows token.entry.at result (config_of self.new) (inside self.new) (machine.after_semicolon token.entry.kind (leaf_of token.entry) subject self.old.outer (inside self.old)) }
         ensures kept { kept self.new ≡ kept self.old }
     {
@@ -121,6 +125,7 @@ impl Reader {
         token: Lexeme<'_>,
         subject: Term,
     ) -> Result<(), TokenFault>
+        requires subject { IsBelow (2 ^ 31) subject }
         ensures moves { Follows token.entry.at result (config_of self.new) (inside self.new) (machine.after_listed token.entry.kind (leaf_of token.entry) subject self.old.outer (inside self.old)) }
         ensures kept { kept self.new ≡ kept self.old }
     {
@@ -133,6 +138,7 @@ impl Reader {
 
     // A verb in brackets that were opened for a node, or their end.
     pub(crate) fn in_brackets(&mut self, token: Lexeme<'_>, node: u32) -> Result<(), TokenFault>
+        requires node { node < 2 ^ 31 }
         ensures moves { Follows token.entry.at result (config_of self.new) (inside self.new) (machine.in_brackets token.entry.kind (leaf_of token.entry) node self.old.outer (inside self.old)) }
         ensures kept { kept self.new ≡ kept self.old }
     {

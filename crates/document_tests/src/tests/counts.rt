@@ -1,9 +1,13 @@
 //! How many triples a document has.
 
-use crate::tests::load::load;
+ghost use Rattle.std.specs.Prelude.{◌≡◌, true, is_some};
+ghost use Rattle.iri_resolve.specs.Components.{scheme_of};
+
+use crate::tests::reading::{base, read_new};
+use lv_base::Text;
+use std::alloc::Global;
 use std::process::Abort;
 use std::test::Fail;
-use triple_store::Store;
 
 /// In each line the number of a document's triples, and the document.
 const COUNTS: &str = concat!(
@@ -24,18 +28,19 @@ const COUNTS: &str = concat!(
     "1 <s> <p> <o> , <o> .\n",
 );
 
-fn assert_counts<R: Abort + AllocGlobal>(rt: &R, line: &str) -> Result<(), Fail> {
-    let mut store = Store::new(rt.alloc());
+fn assert_counts(rt: &impl Abort, alloc: Global, base: &Text, line: &str)
+    requires { is_some (scheme_of base.now) ≡ true }
+{
     let (count, document) = line.split_once(' ').unwrap_or(("", ""));
-    let result = load(rt.alloc(), document.as_bytes(), &mut store)?;
+    let (result, _) = read_new(alloc, base, document.as_bytes());
     assert_eq!(rt; result.ok(), count.parse::<u32>().ok(), "{line}");
-    Ok(())
 }
 
 #[test]
 fn counts(rt: HostRuntime) -> Result<(), Fail> {
+    let base = base(rt.alloc())?;
     for line in COUNTS.lines() {
-        assert_counts(&rt, line)?;
+        assert_counts(&rt, rt.alloc(), &base, line);
     }
     Ok(())
 }

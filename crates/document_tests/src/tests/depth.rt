@@ -1,9 +1,8 @@
 //! How many brackets may be open.
 
-use crate::tests::load::load;
+use crate::tests::reading::{base, read_new};
 use std::alloc::Global;
 use std::test::Fail;
-use triple_store::Store;
 use turtle_read::TurtleFault;
 
 /// `<urn:s> <urn:p>` and so many collections, one within the other.
@@ -21,9 +20,10 @@ fn nested(alloc: Global, depth: usize) -> Result<String, Fail> {
 
 /// What such a document is.
 fn read_nested(alloc: Global, depth: usize) -> Result<Result<u32, TurtleFault>, Fail> {
-    let mut store = Store::new(alloc);
+    let base = base(alloc)?;
     let text = nested(alloc, depth)?;
-    Ok(load(alloc, text.as_bytes(), &mut store)?)
+    let (result, _) = read_new(alloc, &base, text.as_bytes());
+    Ok(result)
 }
 
 /// All but the innermost collection have one item, hence two triples.

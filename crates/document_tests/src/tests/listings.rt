@@ -1,10 +1,15 @@
 //! Triples in their order.
 
-use crate::tests::load::load;
-use lv_base::Bytes;
+ghost use Rattle.std.specs.Prelude.{◌≡◌, true, is_some};
+ghost use Rattle.iri_resolve.specs.Components.{scheme_of};
+
+use crate::tests::reading::{base, read_new};
+use lv_base::{Bytes, NoMemory, Text};
+use std::alloc::Global;
 use std::test::Fail;
 use triple_list::push_listing;
 use triple_store::Store;
+use turtle_read::read;
 
 /// A base, a prefix, an escape, a tag, a comment, and a collection of two numbers.
 const FOUR_LINES: &[u8] = b"@base <http://e.x/d/> . # not http://a/
@@ -23,13 +28,21 @@ const LISTING: &str = concat!(
     "triples 6\n",
 );
 
+/// The triples of a document.
+fn listing(alloc: Global, base: &Text, bytes: &[u8]) -> Result<Bytes, NoMemory>
+    requires { is_some (scheme_of base.now) ≡ true }
+{
+    let mut listing = Bytes::new(alloc);
+    let mut store = Store::new(alloc);
+    let _ = read(alloc, base, bytes, &mut store);
+    push_listing(&mut listing, store.rows())?;
+    Ok(listing)
+}
+
 #[test]
 fn triples_in_order(rt: HostRuntime) -> Result<(), Fail> {
-    let mut store = Store::new(rt.alloc());
-    let result = load(rt.alloc(), FOUR_LINES, &mut store)?;
-    let mut listing = Bytes::new(rt.alloc());
-    push_listing(&mut listing, store.rows())?;
-    assert_eq!(rt; result, Ok(6));
+    let base = base(rt.alloc())?;
+    let listing = listing(rt.alloc(), &base, FOUR_LINES)?;
     assert!(rt; listing.as_slice() == LISTING.as_bytes());
     Ok(())
 }
@@ -37,9 +50,9 @@ fn triples_in_order(rt: HostRuntime) -> Result<(), Fail> {
 /// A byte order mark and a comment are no triples.
 #[test]
 fn nothing(rt: HostRuntime) -> Result<(), Fail> {
-    let mut store = Store::new(rt.alloc());
-    let result = load(rt.alloc(), b"\xEF\xBB\xBF # nothing", &mut store)?;
+    let base = base(rt.alloc())?;
+    let (result, rows) = read_new(rt.alloc(), &base, b"\xEF\xBB\xBF # nothing");
     assert_eq!(rt; result, Ok(0));
-    assert_eq!(rt; store.count(), 0);
+    assert_eq!(rt; rows, 0);
     Ok(())
 }

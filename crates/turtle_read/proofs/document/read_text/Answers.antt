@@ -27,3 +27,12 @@ returns-in-Err c =
       is_told c.args.base.now c.args.store.now c.args.text.now (inside c.new-reader.result) c.in-Err.fault begun c.in-Err.ensures.err,
       c.in-Err.ensures.rows ∙ ap kept_of c.new-reader.ensures.environment ∙ c.new-environment.ensures.kept ∙ c.replace-taken.ensures.value,
     )
+
+pub read_all-requires-clause-begun : goal.read_all-requires-clause-begun
+read_all-requires-clause-begun c = (
+  c.args.base.now,
+  c.args.store.now,
+  begins_at c.args.base.now c.args.store.now c.in_ok-base.base c.replace-taken.result (inside c.new-reader.result)
+      (ap state_of c.new-reader.ensures.environment ∙ c.new-environment.ensures.state) c.in_ok-base.ensures.cases c.replace-taken.ensures.value,
+  c.requires.few,
+)

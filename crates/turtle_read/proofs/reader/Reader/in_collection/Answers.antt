@@ -5,6 +5,7 @@ use Rattle.turtle_read.specs.Moves as moves
 use Rattle.turtle_read.specs.Readers.{inside}
 use Rattle.turtle_read.proofs.Moves as laws
 use Rattle.turtle_read.proofs.Stops.{stops_from, follows_as, residual}
+use Rattle.turtle_read.proofs.Bounds.{collection_below}
 use Rattle.turtle_read.proofs.reader.Reader.in_collection.Goals as goal
 
 pub returns-in_err-end_chain-in-CloseRound-clause-moves : goal.returns-in_err-end_chain-in-CloseRound-clause-moves
@@ -30,3 +31,6 @@ returns-then-begins_object-clause-moves c =
 pub returns-else-begins_object-clause-moves : goal.returns-else-begins_object-clause-moves
 returns-else-begins_object-clause-moves c =
     (refl, laws.collection_other c.args.token.kind (leaf_of c.args.token) c.args.chain c.args.self.now.outer (inside c.args.self.now) false c.in_default.not-CloseRound (sym c.begins_object.ensures ∙ c.if-begins_object.false))
+
+pub close-requires : goal.close-requires
+close-requires c = record { term = collection_below _ c.args.chain _ c.in_ok-term-in-CloseRound.ensures c.requires.chain }

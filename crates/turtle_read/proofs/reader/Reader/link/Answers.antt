@@ -1,9 +1,10 @@
-use Rattle.std.proofs.Common.{ap, sym, ◌∙◌}
+use Rattle.std.proofs.Common.{ap, sym, ◌∙◌, arith}
 use Rattle.triple_store.specs.declared.term.Term.TheVariants as terms
 use Rattle.turtle_read.specs.Moves as moves
 use Rattle.turtle_read.specs.Readers.{inside}
 use Rattle.turtle_read.proofs.Moves as laws
 use Rattle.turtle_read.proofs.Stops.{gives_as}
+use Rattle.turtle_read.proofs.Bounds.{chain_as, iri_below}
 use Rattle.turtle_read.proofs.reader.Reader.link.Goals as goal
 
 pub returns-in_default-clause-value : goal.returns-in_default-clause-value
@@ -16,3 +17,9 @@ returns-clause-value c =
     (ap (λ x. moves.linked x c.args.at c.args.node (inside c.args.self.now)) c.in-Nodes.is ∙ laws.link_last c.in-Nodes.first c.in-Nodes.last c.args.at c.args.node (inside c.args.self.now)
     ∙ ap (λ p. moves.add c.args.at (terms.Blank c.in-Nodes.last) p (terms.Blank c.args.node) (inside c.args.self.now)) (sym c.in_ok-rest.ensures))
     c.add.ensures.value
+
+pub add-requires-clause-s : goal.add-requires-clause-s
+add-requires-clause-s c = let h = chain_as _ c.args.chain _ c.in-Nodes.is c.requires.chain in omega (arith, h.1)
+
+pub add-requires-clause-p : goal.add-requires-clause-p
+add-requires-clause-p c = iri_below _ _ _ c.in_ok-rest.ensures

@@ -1,40 +1,11 @@
-use Rattle.std.proofs.Common.{refl, ap, ◌∙◌}
+use Rattle.std.proofs.Common.{ap, ◌∙◌}
 use Rattle.turtle_read.specs.Faults.{leaf_of}
 use Rattle.turtle_read.specs.Moves as moves
 use Rattle.turtle_read.specs.Readers.{inside}
 use Rattle.turtle_read.proofs.Moves as laws
 use Rattle.turtle_read.proofs.Stops.{follows_as}
+use Rattle.turtle_read.proofs.Bounds.{next_as, less_room}
 use Rattle.turtle_read.proofs.reader.Reader.plain_step.Goals as goal
-
-pub returns-in-Statement-clause-moves : goal.returns-in-Statement-clause-moves
-returns-in-Statement-clause-moves c =
-    follows_as c.args.token.at c.at_statement.result _ _ _ _
-    (ap (λ e. moves.plain_move e c.args.self.now.outer c.args.token.kind (leaf_of c.args.token) (inside c.args.self.now)) c.in-Statement.is ∙ laws.plain_statement c.args.self.now.outer c.args.token.kind (leaf_of c.args.token) (inside c.args.self.now))
-    c.at_statement.ensures.moves
-
-pub returns-in-Prefix-clause-moves : goal.returns-in-Prefix-clause-moves
-returns-in-Prefix-clause-moves c =
-    follows_as c.args.token.at c.at_prefix.result _ _ _ _
-    (ap (λ e. moves.plain_move e c.args.self.now.outer c.args.token.kind (leaf_of c.args.token) (inside c.args.self.now)) c.in-Prefix.is ∙ laws.plain_prefix c.in-Prefix.dot c.args.self.now.outer c.args.token.kind (leaf_of c.args.token) (inside c.args.self.now))
-    c.at_prefix.ensures.moves
-
-pub returns-in-Namespace-clause-moves : goal.returns-in-Namespace-clause-moves
-returns-in-Namespace-clause-moves c =
-    follows_as c.args.token.at c.at_namespace.result _ _ _ _
-    (ap (λ e. moves.plain_move e c.args.self.now.outer c.args.token.kind (leaf_of c.args.token) (inside c.args.self.now)) c.in-Namespace.is ∙ laws.plain_namespace c.in-Namespace.dot c.in-Namespace.prefix c.args.self.now.outer c.args.token.kind (leaf_of c.args.token) (inside c.args.self.now))
-    c.at_namespace.ensures.moves
-
-pub returns-in-Base-clause-moves : goal.returns-in-Base-clause-moves
-returns-in-Base-clause-moves c =
-    follows_as c.args.token.at c.at_base.result _ _ _ _
-    (ap (λ e. moves.plain_move e c.args.self.now.outer c.args.token.kind (leaf_of c.args.token) (inside c.args.self.now)) c.in-Base.is ∙ laws.plain_base c.in-Base.dot c.args.self.now.outer c.args.token.kind (leaf_of c.args.token) (inside c.args.self.now))
-    c.at_base.ensures.moves
-
-pub returns-in-DirectiveDot-clause-moves : goal.returns-in-DirectiveDot-clause-moves
-returns-in-DirectiveDot-clause-moves c =
-    follows_as c.args.token.at c.at_dot.result _ _ _ _
-    (ap (λ e. moves.plain_move e c.args.self.now.outer c.args.token.kind (leaf_of c.args.token) (inside c.args.self.now)) c.in-DirectiveDot.is ∙ laws.plain_dot c.args.self.now.outer c.args.token.kind (leaf_of c.args.token) (inside c.args.self.now))
-    c.at_dot.ensures.moves
 
 pub returns-in-Verb-clause-moves : goal.returns-in-Verb-clause-moves
 returns-in-Verb-clause-moves c =
@@ -84,6 +55,33 @@ returns-in-Datatype-clause-moves c =
     (ap (λ e. moves.plain_move e c.args.self.now.outer c.args.token.kind (leaf_of c.args.token) (inside c.args.self.now)) c.in-Datatype.is ∙ laws.plain_datatype c.in-Datatype.text c.in-Datatype.hole c.args.self.now.outer c.args.token.kind (leaf_of c.args.token) (inside c.args.self.now))
     c.typed_by.ensures.moves
 
-pub returns-clause-moves : goal.returns-clause-moves
-returns-clause-moves c =
-    (refl, ap (λ e. moves.plain_move e c.args.self.now.outer c.args.token.kind (leaf_of c.args.token) (inside c.args.self.now)) c.in-Suffix.is ∙ laws.plain_suffix _ _ _ c.args.self.now.outer c.args.token.kind (leaf_of c.args.token) (inside c.args.self.now))
+pub outer_step-requires-clause-outer : goal.outer_step-requires-clause-outer
+outer_step-requires-clause-outer c =
+    laws.is_outer c.args.next c.in_default.not-Verb c.in_default.not-AfterSemicolon c.in_default.not-AfterObject c.in_default.not-AfterListed c.in_default.not-Object c.in_default.not-Item c.in_default.not-Property c.in_default.not-Datatype
+
+pub after_semicolon-requires : goal.after_semicolon-requires
+after_semicolon-requires c = record { subject = next_as _ c.args.next _ c.in-AfterSemicolon.is c.requires.next }
+
+pub after_object-requires : goal.after_object-requires
+after_object-requires c = record { subject = (next_as _ c.args.next _ c.in-AfterObject.is c.requires.next).0 }
+
+pub after_listed-requires : goal.after_listed-requires
+after_listed-requires c = record { subject = next_as _ c.args.next _ c.in-AfterListed.is c.requires.next }
+
+pub begin_object-requires-clause-hole : goal.begin_object-requires-clause-hole
+begin_object-requires-clause-hole c = next_as _ c.args.next _ c.in-Object.is c.requires.next
+
+pub in_collection-requires-clause-chain : goal.in_collection-requires-clause-chain
+in_collection-requires-clause-chain c = next_as _ c.args.next _ c.in-Item.is c.requires.next
+
+pub in_brackets-requires : goal.in_brackets-requires
+in_brackets-requires c = record { node = next_as _ c.args.next _ c.in-Property.is c.requires.next }
+
+pub typed_by-requires : goal.typed_by-requires
+typed_by-requires c = record { hole = next_as _ c.args.next _ c.in-Datatype.is c.requires.next }
+
+pub begin_object-requires-clause-room : goal.begin_object-requires-clause-room
+begin_object-requires-clause-room c = less_room _ c.requires.room
+
+pub outer_step-requires-clause-room : goal.outer_step-requires-clause-room
+outer_step-requires-clause-room c = less_room _ c.requires.room

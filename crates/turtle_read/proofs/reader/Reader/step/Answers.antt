@@ -6,6 +6,7 @@ use Rattle.turtle_read.specs.Readers.{inside}
 use Rattle.turtle_read.specs.declared.reader.Reader.{Reader}
 use Rattle.turtle_read.proofs.Moves as laws
 use Rattle.turtle_read.proofs.Stops.{follows_as}
+use Rattle.turtle_read.proofs.Bounds.{room_as, next_as}
 use Rattle.turtle_read.proofs.reader.Reader.step.Goals as goal
 
 pub returns-in-Suffix-clause-moves : goal.returns-in-Suffix-clause-moves
@@ -23,3 +24,15 @@ returns-in_default-clause-moves c =
     ∙ laws.move_plain c.take_next.result c.args.self.now.outer c.args.token.kind (leaf_of c.args.token) (inside c.args.self.now) c.in_default.not-Suffix
     ∙ ap (λ (r : Reader). moves.plain_move c.take_next.result r.outer c.args.token.kind (leaf_of c.args.token) (inside r)) (sym c.take_next.ensures.rest))
     c.plain_step.ensures.moves
+
+pub after_string-requires-clause-room : goal.after_string-requires-clause-room
+after_string-requires-clause-room c = room_as 2 _ _ (ap (λ (r : Reader). inside r) c.take_next.ensures.rest) c.requires.room
+
+pub after_string-requires-clause-hole : goal.after_string-requires-clause-hole
+after_string-requires-clause-hole c = next_as _ _ _ (sym c.take_next.ensures.next ∙ c.in-Suffix.is) c.requires.next
+
+pub plain_step-requires-clause-room : goal.plain_step-requires-clause-room
+plain_step-requires-clause-room c = room_as 2 _ _ (ap (λ (r : Reader). inside r) c.take_next.ensures.rest) c.requires.room
+
+pub plain_step-requires-clause-next : goal.plain_step-requires-clause-next
+plain_step-requires-clause-next c = next_as _ _ _ (sym c.take_next.ensures.next) c.requires.next
