@@ -1,1 +1,6 @@
 mod Counts
+mod Cuts
+mod Numerals
+mod LineLaws
+mod LinesFound
+mod Lines
