@@ -4,3 +4,4 @@ mod Numerals
 mod LineLaws
 mod LinesFound
 mod Lines
+mod Unique

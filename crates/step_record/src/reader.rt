@@ -1,4 +1,5 @@
-ghost use Rattle.std.specs.Prelude.{◌≡◌, ◌≤◌, ◌<◌, ◌++◌, [], length, flat_map, IfOk, OnOk, IfErr, IfSome, Some};
+ghost use Rattle.std.specs.Prelude.{◌≡◌, ◌≤◌, ◌<◌, ◌++◌, [], length, flat_map, IfOk, OnOk, IfErr, IfSome, Some, List, MatchResult};
+ghost use Rattle.step_law.specs.declared.entry.Entry.{Entry};
 ghost use Rattle.step_law.specs.Form.{IsForm};
 ghost use Rattle.step_record.specs.Reading.{IsFormed, ReadsLine, most_lines, Says, SaysNext, SaysOfLines, SaysOfText, line_at, line_for, next_at, lines_after};
 ghost use Rattle.step_record.specs.Reading as spec;
@@ -15,7 +16,15 @@ const MOST_LINES: u64 = 4_718_592;
 
 /// Reads a record's text, format 1.
 pub fn read(alloc: Global, bytes: &[u8]) -> Result<Record, RecordFault>
-    ensures ok { IfOk result (λ steps. IsFormed steps × (bytes.now ≡ record_text steps) × (lines_after bytes.now ≤ 4718592)) }
+    ensures ok { IfOk result (λ steps. IsFormed steps × (bytes.now ≡ record_text steps) × (lines_after bytes.now ≤ most_lines)) }
+    ensures err { IfErr result (λ fault. Says fault bytes.now) }
+    ensures back { (steps : List Entry) → IsFormed steps → bytes.now ≡ record_text steps → lines_after bytes.now ≤ most_lines → MatchResult result (λ found. found ≡ steps) (λ fault. fault ≡ RecordFault.NoMemory) }
+{
+    read_few(alloc, bytes)
+}
+
+fn read_few(alloc: Global, bytes: &[u8]) -> Result<Record, RecordFault>
+    ensures ok { IfOk result (λ steps. IsFormed steps × (bytes.now ≡ record_text steps) × (lines_after bytes.now ≤ most_lines)) }
     ensures err { IfErr result (λ fault. Says fault bytes.now) }
 {
     let count = count_lines(bytes);
