@@ -20,10 +20,10 @@ use Rattle.step_law.specs.Told.{called, event_at, if_told, event_of}
 -- ---- numbers of rings, calls and actors
 
 -- what the tests of a worker and an instance say
-worker_within : (w : ℕ) → is_worker w ≡ true → (0 < w) × (w < 9)
+pub worker_within : (w : ℕ) → is_worker w ≡ true → (0 < w) × (w < 9)
 worker_within w h = let both = and_parts (nat_lt 0 w) (nat_lt w 9) h in (ltb-true 0 w both.0, ltb-true w 9 both.1)
 
-inst_within : (i : ℕ) → is_inst i ≡ true → i < 32
+pub inst_within : (i : ℕ) → is_inst i ≡ true → i < 32
 inst_within i h = ltb-true i 32 h
 
 -- a worker's ring has its number
@@ -104,7 +104,7 @@ actor_same (suc (suc n)) = omega arith
 -- ---- from an event to its entry and back
 
 -- the rings of an event
-abbrev has_rings : Event → Bool
+abbrev pub has_rings : Event → Bool
 has_rings (Look ring shown) = is_ring ring
 has_rings (Take ring) = is_ring ring
 has_rings (Send ring) = is_ring ring
@@ -136,7 +136,7 @@ worker_rings (Full ring) h = h
 worker_rings (Long ring) h = h
 worker_rings _ h = refl
 
-told_rings : (actor : Actor) (event : Event) → tells actor event ≡ true → has_rings event ≡ true
+pub told_rings : (actor : Actor) (event : Event) → tells actor event ≡ true → has_rings event ≡ true
 told_rings Audio event h = audio_rings event h
 told_rings Control event h = control_rings event h
 told_rings (Worker w) event h = worker_rings event (and_parts (is_worker w) (worker_tells event) h).1

@@ -1,2 +1,2 @@
-mod EventLaws
+pub mod EventLaws
 mod EntryLaws

@@ -1,1 +1,7 @@
 mod Counts
+mod Cuts
+mod Numerals
+mod LineLaws
+mod LinesFound
+mod Lines
+mod Unique

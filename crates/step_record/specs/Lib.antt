@@ -1,7 +1,9 @@
 pub mod Count
 pub mod Log
+pub mod Reading
 pub mod RecordText
 pub mod Tickets
+pub mod Words
 pub use Rattle.step_law.specs.Actor
 pub use Rattle.step_law.specs.Call
 pub use Rattle.step_law.specs.Ring

@@ -19,7 +19,7 @@ pub fn write(alloc: Global, steps: &Record) -> Result<Bytes, NoMemory>
     Ok(text)
 }
 
-fn push_line(text: &mut Bytes, entry: &Entry) -> Result<(), NoMemory>
+pub(crate) fn push_line(text: &mut Bytes, entry: &Entry) -> Result<(), NoMemory>
     ensures { OnOk result (text.new ≡ text.old ++ line_of entry.now) }
 {
     if entry.kind == Kind::Last {
