@@ -5,13 +5,14 @@ ghost use Rattle.atom_core.specs.Value.{Value};
 ghost use Rattle.atom_core.specs.Spelling.{kind_of, body_of};
 ghost use Rattle.atom_core.specs.Answer.{Spells, IsAtom, HasFault};
 ghost use Rattle.atom_core.specs.Readers.{int_of, long_of, fixed_of, urid_of, text_of};
-ghost use Rattle.atom_core.specs.Atoms.{parts_in, HoldsAtoms};
+ghost use Rattle.atom_core.specs.Atoms.{parts_in, HoldsAtoms, properties_in, HoldsProperties};
 
 use crate::fault::AtomFault;
-use crate::kind::{FIXED, INT, LONG, STRING, TUPLE, URID};
+use crate::kind::{FIXED, INT, LONG, OBJECT, STRING, TUPLE, URID};
 use crate::number::{i32_at, i64_at, u32_at};
 use crate::outer::check;
 use crate::parts::AtomParts;
+use crate::properties::AtomProperties;
 use lv_base::Fixed;
 
 /// An atom in place: the bytes of its header and of its body.
@@ -130,5 +131,15 @@ impl<'a> AtomView<'a> {
             return None;
         }
         Some(AtomParts::over(self.body()))
+    }
+
+    /// The properties of an Object, in order.
+    pub fn properties(&self) -> Option<AtomProperties<'a>>
+        ensures { (v : Value) → Spells self.now.bytes.now v → HoldsProperties result (properties_in v) }
+    {
+        if self.kind() != OBJECT {
+            return None;
+        }
+        Some(AtomProperties::over(behind(self.body(), 8)))
     }
 }

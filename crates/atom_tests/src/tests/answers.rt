@@ -102,7 +102,8 @@ ok
 ";
 
 fn place(word: Option<&str>) -> usize {
-    word.and_then(|digits| digits.parse::<usize>().ok()).unwrap_or(usize::MAX)
+    word.and_then(|digits| digits.parse::<usize>().ok())
+        .unwrap_or(usize::MAX)
 }
 
 /// The answer that a line names.
