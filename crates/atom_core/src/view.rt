@@ -1,5 +1,6 @@
-ghost use Rattle.std.specs.Prelude.{◌≡◌, ◌≤◌, ◌-◌, length, drop, take, MatchResult};
+ghost use Rattle.std.specs.Prelude.{◌≡◌, ◌≤◌, ◌-◌, length, drop, take, IsOk, IsErrOf, MatchResult};
 ghost use Rattle.std.specs.Option.{option_copied};
+ghost use Rattle.atom_core.specs.declared.fault.AtomFault.{AtomFault};
 ghost use Rattle.atom_core.specs.Place.{kind_at};
 ghost use Rattle.atom_core.specs.Value.{Value};
 ghost use Rattle.atom_core.specs.Spelling.{kind_of, body_of};
@@ -24,7 +25,11 @@ pub struct AtomView<'a> {
 
 /// Looks at bytes as an atom, if they are one and all of it.
 pub fn read(bytes: &[u8]) -> Result<AtomView<'_>, AtomFault>
-    ensures { MatchResult result (λ view. (view.bytes.now ≡ bytes.now) × IsAtom bytes.now) (λ fault. HasFault bytes.now fault) }
+    ensures answer { MatchResult result (λ view. (view.bytes.now ≡ bytes.now) × IsAtom bytes.now) (λ fault. HasFault bytes.now fault) }
+    // What spells a value is never refused.
+    ensures only { (v : Value) → Spells bytes.now v → IsOk result }
+    // There is no other first fault.
+    ensures exact { (fault : AtomFault) → HasFault bytes.now fault → IsErrOf result fault }
 {
     match check(bytes) {
         Ok(()) => Ok(AtomView { bytes }),
