@@ -16,7 +16,7 @@ use Rattle.atom_core.proofs.Reading.{first_stands, atom_says}
 
 -- what fits in fewer containers fits in more
 mutual
-  fits_more : (n m : ℕ) (v : Value) → n ≤ m → Fits n v → Fits m v
+  pub fits_more : (n m : ℕ) (v : Value) → n ≤ m → Fits n v → Fits m v
   fits_more n m (plain p) le fits = fits
   fits_more n m (holding c ps) le fits = (fits.0, fits.1, parts_fit_more n m _ ps le fits.2)
 
@@ -26,14 +26,14 @@ mutual
       let below : pred n ≤ pred m = omega (arith, le) in
       (omega (arith, le, fits.0), fits.1, fits_more (pred n) (pred m) v below fits.2, parts_fit_more n m form ps le fits.3)
 
-record First (bytes : List ℕ) (v : Value) (others : Parts) : Type 0 where
-  header : 8 ≤ length bytes
-  fits : 8 + size_at bytes 0 ≤ length bytes
-  next : padded (8 + size_at bytes 0) ≤ length bytes
-  atom : take (8 + size_at bytes 0) bytes ≡ atom_of v
-  rest : drop (padded (8 + size_at bytes 0)) bytes ≡ parts_of others
+pub record First (bytes : List ℕ) (v : Value) (others : Parts) : Type 0 where
+  pub header : 8 ≤ length bytes
+  pub fits : 8 + size_at bytes 0 ≤ length bytes
+  pub next : padded (8 + size_at bytes 0) ≤ length bytes
+  pub atom : take (8 + size_at bytes 0) bytes ≡ atom_of v
+  pub rest : drop (padded (8 + size_at bytes 0)) bytes ≡ parts_of others
 
-first : (bytes : List ℕ) (v : Value) (others : Parts) → Fits 15 v → bytes ≡ with_padding (atom_of v) ++ parts_of others → First bytes v others
+pub first : (bytes : List ℕ) (v : Value) (others : Parts) → Fits 15 v → bytes ≡ with_padding (atom_of v) ++ parts_of others → First bytes v others
 first bytes v others fits e =
     let text = atom_of v in
     let tail : List ℕ = replicate (padded (length text) - length text) 0 in

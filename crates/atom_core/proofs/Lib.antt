@@ -11,3 +11,4 @@ pub mod Reading
 pub mod OneAnswer
 pub mod Readings
 pub mod Firsts
+pub mod Keyed

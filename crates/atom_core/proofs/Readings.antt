@@ -1,19 +1,20 @@
 -- What the readers of a view give, of any value that its bytes spell.
-use Rattle.std.proofs.Common.{◌≡◌, ℕ, ◌+◌, ◌-◌, ◌≤◌, true, false, List, length, drop, take, slice_range, Option, Some, ℤ, refl, sym, ap, ◌∙◌, subst, arith}
+use Rattle.std.proofs.Common.{◌≡◌, ℕ, ◌+◌, ◌-◌, ◌≤◌, true, false, List, length, drop, take, slice_range, Option, Some, ℤ, refl, sym, ap, ◌∙◌, subst, arith, ◌++◌}
 use Rattle.std.specs.Int.{w32, w64, from_le_bytes, cast_signed}
 use Rattle.std.proofs.lemmas.Bool.{eqb-true, leb-true}
-use Rattle.std.proofs.lemmas.List.{take_all, get_or-drop, length-drop, take_rest}
+use Rattle.std.proofs.lemmas.List.{take_all, get_or-drop, length-drop, take_rest, length-append, drop_at}
 use Rattle.lv_base.specs.declared.number.Fixed.{Fixed}
 use Rattle.atom_core.specs.Form.{form_of, allows_size, is_container}
 use Rattle.atom_core.specs.Place.{number_at, wide_at, size_at, kind_at, Stands}
 use Rattle.atom_core.specs.Value.{tuple, object, sequence, Value, plain, holding, Parts}
-use Rattle.atom_core.specs.Spelling.{plain_kind, kind_of, body_of, atom_of}
+use Rattle.atom_core.specs.Spelling.{plain_kind, kind_of, body_of, atom_of, u32, parts_of}
 use Rattle.atom_core.specs.Fits.{Fits}
 use Rattle.atom_core.specs.Content.{IsOwn, form_at}
 use Rattle.atom_core.specs.Answer.{Spells}
 use Rattle.atom_core.specs.Readers.{int_of, long_of, fixed_of, urid_of, text_of}
-use Rattle.atom_core.specs.Atoms.{SpellAtoms, parts_in, HoldsAtoms}
+use Rattle.atom_core.specs.Atoms.{SpellAtoms, parts_in, HoldsAtoms, SpellProperties, properties_in, HoldsProperties}
 use Rattle.atom_core.proofs.OneValue.{plain_by, plain_from, plain_back, plain_leaf, container_holds}
+use Rattle.atom_core.proofs.Numbers.{u32-length}
 use Rattle.atom_core.proofs.Reading.{atom_says, own_well}
 
 -- what bytes that spell a value say of it
@@ -138,3 +139,34 @@ holds_atoms bytes v left spells e same =
     let t = tuple_here bytes v spells e in
     let here : SpellAtoms left t.parts = subst (λ (b : List ℕ). SpellAtoms b t.parts) (sym same) t.spells in
     subst (λ p. HoldsAtoms (Some left) p) (sym t.parts_are) here
+
+-- the properties of an object
+pub record ObjectHere (bytes : List ℕ) (v : Value) : Type 0 where
+  pub parts : Parts
+  pub parts_are : properties_in v ≡ Some parts
+  pub room : 8 ≤ length (drop 8 bytes)
+  pub spells : SpellProperties (drop 8 (drop 8 bytes)) parts
+
+pub object_here : (bytes : List ℕ) (v : Value) → Spells bytes v → kind_at bytes 0 ≡ 9 → ObjectHere bytes v
+unfolding form_of
+object_here bytes (plain p) spells e =
+    let kind : plain_kind p ≡ 9 = sym (says bytes (plain p) spells).kind ∙ e in
+    absurd (apart (sym (plain_leaf p spells.fits.0) ∙ ap (λ k. is_container (form_of k)) kind))
+object_here bytes (holding tuple ps) spells e = absurd (omega (arith, (says bytes (holding tuple ps) spells).kind, e))
+object_here bytes (holding (object id kind) ps) spells e =
+    let head = u32 id ++ u32 kind in
+    let long : length head ≡ 8 = omega (arith, length-append (u32 id) (u32 kind), u32-length id, u32-length kind) in
+    let body : drop 8 bytes ≡ head ++ parts_of ps = (says bytes (holding (object id kind) ps) spells).body in
+    record {
+      parts = ps;
+      parts_are = refl;
+      room = omega (arith, ap length body, length-append head (parts_of ps), long);
+      spells = (spells.fits.2, ap (drop 8) body ∙ drop_at head (parts_of ps) 8 long);
+    }
+object_here bytes (holding sequence ps) spells e = absurd (omega (arith, (says bytes (holding sequence ps) spells).kind, e))
+
+pub holds_properties : (bytes : List ℕ) (v : Value) (left : List ℕ) → Spells bytes v → kind_at bytes 0 ≡ 9 → left ≡ drop 8 (drop 8 bytes) → HoldsProperties (Some left) (properties_in v)
+holds_properties bytes v left spells e same =
+    let t = object_here bytes v spells e in
+    let here : SpellProperties left t.parts = subst (λ (b : List ℕ). SpellProperties b t.parts) (sym same) t.spells in
+    subst (λ p. HoldsProperties (Some left) p) (sym t.parts_are) here

@@ -1,7 +1,7 @@
 -- The atoms of a tuple, one behind the other.
 use Rattle.std.specs.Prelude.{◌≡◌, ℕ, List, Option, None, Some}
-use Rattle.atom_core.specs.declared.form.Form.TheVariants.{Tuple}
-use Rattle.atom_core.specs.Value.{Value, holding, tuple, Parts}
+use Rattle.atom_core.specs.declared.form.Form.TheVariants.{Tuple, Object}
+use Rattle.atom_core.specs.Value.{Value, holding, tuple, object, Parts}
 use Rattle.atom_core.specs.Spelling.{parts_of}
 use Rattle.atom_core.specs.Fits.{PartsFit}
 use Rattle.atom_core.specs.Answer.{most_containers}
@@ -25,3 +25,23 @@ HoldsAtoms None None = Unit {0}
 HoldsAtoms (Some bytes) (Some parts) = SpellAtoms bytes parts
 HoldsAtoms None (Some parts) = ⊥
 HoldsAtoms (Some bytes) None = ⊥
+
+-- the bytes spell these properties
+abbrev pub SpellProperties : List ℕ → Parts → Type 0
+SpellProperties bytes parts = PartsFit most_containers Object parts × (bytes ≡ parts_of parts)
+
+-- the bytes spell properties
+abbrev pub AreProperties : List ℕ → Type 0
+AreProperties bytes = (parts : Parts) × SpellProperties bytes parts
+
+-- a value's properties, if it is an object
+abbrev pub properties_in : Value → Option Parts
+properties_in (holding (object id kind) parts) = Some parts
+properties_in value = None
+
+-- an iterator over these properties, or none where there are none
+abbrev pub HoldsProperties : Option (List ℕ) → Option Parts → Type 0
+HoldsProperties None None = Unit {0}
+HoldsProperties (Some bytes) (Some parts) = SpellProperties bytes parts
+HoldsProperties None (Some parts) = ⊥
+HoldsProperties (Some bytes) None = ⊥

@@ -9,4 +9,6 @@ pub const STRING: u32 = 5;
 
 pub const TUPLE: u32 = 8;
 
+pub const OBJECT: u32 = 9;
+
 pub const FIXED: u32 = 14;

@@ -10,10 +10,12 @@ mod number;
 mod outer;
 mod part;
 mod parts;
+mod properties;
 mod view;
 
 pub use fault::AtomFault;
 pub use laws::{one_answer, one_spelling, one_value};
 pub use outer::check;
 pub use parts::AtomParts;
+pub use properties::AtomProperties;
 pub use view::{AtomView, read};

@@ -24,7 +24,7 @@ impl<'a> Model for AtomParts<'a> {
 }
 
 /// The first so many bytes.
-fn front(bytes: &[u8], end: usize) -> &[u8]
+pub fn front(bytes: &[u8], end: usize) -> &[u8]
     requires { end ≤ length bytes.now }
     ensures { result.now ≡ take end bytes.now }
 {

@@ -1,17 +1,19 @@
-ghost use Rattle.std.specs.Prelude.{◌≡◌, ◌≤◌, ◌-◌, length, drop, take, MatchResult};
+ghost use Rattle.std.specs.Prelude.{◌≡◌, ◌≤◌, ◌-◌, length, drop, take, IsOk, IsErrOf, MatchResult};
 ghost use Rattle.std.specs.Option.{option_copied};
+ghost use Rattle.atom_core.specs.declared.fault.AtomFault.{AtomFault};
 ghost use Rattle.atom_core.specs.Place.{kind_at};
 ghost use Rattle.atom_core.specs.Value.{Value};
 ghost use Rattle.atom_core.specs.Spelling.{kind_of, body_of};
 ghost use Rattle.atom_core.specs.Answer.{Spells, IsAtom, HasFault};
 ghost use Rattle.atom_core.specs.Readers.{int_of, long_of, fixed_of, urid_of, text_of};
-ghost use Rattle.atom_core.specs.Atoms.{parts_in, HoldsAtoms};
+ghost use Rattle.atom_core.specs.Atoms.{parts_in, HoldsAtoms, properties_in, HoldsProperties};
 
 use crate::fault::AtomFault;
-use crate::kind::{FIXED, INT, LONG, STRING, TUPLE, URID};
+use crate::kind::{FIXED, INT, LONG, OBJECT, STRING, TUPLE, URID};
 use crate::number::{i32_at, i64_at, u32_at};
 use crate::outer::check;
 use crate::parts::AtomParts;
+use crate::properties::AtomProperties;
 use lv_base::Fixed;
 
 /// An atom in place: the bytes of its header and of its body.
@@ -23,7 +25,11 @@ pub struct AtomView<'a> {
 
 /// Looks at bytes as an atom, if they are one and all of it.
 pub fn read(bytes: &[u8]) -> Result<AtomView<'_>, AtomFault>
-    ensures { MatchResult result (λ view. (view.bytes.now ≡ bytes.now) × IsAtom bytes.now) (λ fault. HasFault bytes.now fault) }
+    ensures answer { MatchResult result (λ view. (view.bytes.now ≡ bytes.now) × IsAtom bytes.now) (λ fault. HasFault bytes.now fault) }
+    // What spells a value is never refused.
+    ensures only { (v : Value) → Spells bytes.now v → IsOk result }
+    // There is no other first fault.
+    ensures exact { (fault : AtomFault) → HasFault bytes.now fault → IsErrOf result fault }
 {
     match check(bytes) {
         Ok(()) => Ok(AtomView { bytes }),
@@ -130,5 +136,15 @@ impl<'a> AtomView<'a> {
             return None;
         }
         Some(AtomParts::over(self.body()))
+    }
+
+    /// The properties of an Object, in order.
+    pub fn properties(&self) -> Option<AtomProperties<'a>>
+        ensures { (v : Value) → Spells self.now.bytes.now v → HoldsProperties result (properties_in v) }
+    {
+        if self.kind() != OBJECT {
+            return None;
+        }
+        Some(AtomProperties::over(behind(self.body(), 8)))
     }
 }
