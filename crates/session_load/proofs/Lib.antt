@@ -2,6 +2,5 @@ pub mod Inside
 pub mod Loading
 pub mod Once
 pub mod OneLoading
-pub mod Outcomes
 pub mod Plugins
 pub mod SomeLoading

@@ -18,7 +18,7 @@ use Rattle.session_load.specs.declared.bundle_files.TheConstants.{MOST_FILE_BYTE
 use Rattle.session_load.specs.declared.fault.LoadFault.{LoadFault}
 use Rattle.session_load.specs.declared.fault.LoadFault.TheVariants.{Missing, TooLong, Turtle}
 use Rattle.session_load.proofs.Loading.{unloaded}
-use Rattle.session_load.proofs.Outcomes.{every_outcome}
+use Rattle.turtle_document.proofs.Outcomes.{every_outcome}
 
 -- a vault that counted one more absence and one more file that was too long
 abbrev risen : VaultState → VaultState

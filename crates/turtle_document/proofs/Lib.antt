@@ -11,6 +11,7 @@ pub mod Mentions
 pub mod Numbering
 pub mod Objects
 pub mod OneOutcome
+pub mod Outcomes
 pub mod Properties
 pub mod Reached
 pub mod Reading

@@ -1,10 +1,11 @@
 -- Each text that falls into tokens is read in some way.
 use Rattle.std.proofs.Common.{◌≡◌, ℕ, List, [], ◌∷◌, length, refl}
+use Rattle.triple_store.specs.declared.term.Triple.{Triple}
 use Rattle.turtle_grammar.specs.Tokens.{Answer, Lexes, start_of}
 use Rattle.turtle_grammar.specs.Tokens.Answer.{end, is_unclosed, is_bad}
 use Rattle.turtle_grammar.specs.declared.token.Token.{Token}
 use Rattle.turtle_document.specs.Meaning.{State, beginning}
-use Rattle.turtle_document.specs.Answer.{Outcome, IsReadAs, HasSomeOutcome}
+use Rattle.turtle_document.specs.Answer.{Outcome, IsReadAs, HasTokens}
 use Rattle.turtle_document.specs.Answer.Outcome.{document, unclosed, bad_byte, syntax, fault}
 use Rattle.turtle_document.specs.Machine.{Config, config, Move, move}
 use Rattle.turtle_document.specs.Machine.Move.{to, stuck, fails}
@@ -49,7 +50,8 @@ from_here start bytes (t ∷ rest) place c st last s h =
     at_token start bytes place c st t rest last (move c t.kind (leaf_at bytes t) st) s h refl
     (λ d after stands. from_here start bytes rest t.upto d after last stands h.1)
 
-pub some_outcome : HasSomeOutcome
+pub some_outcome : (base : List ℕ) (rows : List Triple) (bytes : List ℕ) (tokens : List Token) (last : Answer)
+    → HasTokens bytes tokens last → (o : Outcome) × IsReadAs (beginning base rows) bytes o
 some_outcome base rows bytes tokens last h =
     from_here (beginning base rows) bytes tokens (start_of bytes) (config expect.Statement []) (beginning base rows) last
     (stands_first (beginning base rows) bytes h.0) h.1

@@ -98,10 +98,9 @@ abbrev pub HasOneOutcome : Type 0
 HasOneOutcome = (base : List ℕ) (rows : List Triple) (bytes : List ℕ) (a b : Outcome)
     → IsReadAs (beginning base rows) bytes a → IsReadAs (beginning base rows) bytes b → a ≡ b
 
--- Each text that falls into tokens, up to its end or up to a character that no token has there, is read in some way.
+-- Any bytes are read in some way.
 abbrev pub HasSomeOutcome : Type 0
-HasSomeOutcome = (base : List ℕ) (rows : List Triple) (bytes : List ℕ) (tokens : List Token) (last : Answer)
-    → HasTokens bytes tokens last → (o : Outcome) × IsReadAs (beginning base rows) bytes o
+HasSomeOutcome = (base : List ℕ) (rows : List Triple) (bytes : List ℕ) → (o : Outcome) × IsReadAs (beginning base rows) bytes o
 
 -- A document's triples come behind the rows that were there, and they are never more than a store has room for.
 abbrev pub KeepsRows : Type 0

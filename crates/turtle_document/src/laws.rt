@@ -6,7 +6,7 @@ pub fn one_outcome()
     ensures { HasOneOutcome }
 {}
 
-/// Each text that falls into tokens, up to its end or up to a character that no token has there, is read in some way.
+/// Any bytes are read in some way: as a document, or with a fault at a place.
 pub fn some_outcome()
     ensures { HasSomeOutcome }
 {}

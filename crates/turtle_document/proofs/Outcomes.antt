@@ -11,7 +11,7 @@ use Rattle.triple_store.specs.declared.term.Triple.{Triple}
 use Rattle.turtle_grammar.specs.Tokens.{bytes_of, start_of}
 use Rattle.turtle_grammar.proofs.SomeAnswer.{some_reading}
 use Rattle.turtle_grammar.proofs.Spans.{Cut, cut}
-use Rattle.turtle_document.specs.Answer.{Outcome, IsReadAs}
+use Rattle.turtle_document.specs.Answer.{Outcome, IsReadAs, HasSomeOutcome}
 use Rattle.turtle_document.specs.Answer.Outcome.{not_utf8}
 use Rattle.turtle_document.specs.Meaning.{beginning}
 use Rattle.turtle_document.proofs.SomeOutcome.{some_outcome}
@@ -62,5 +62,5 @@ by_utf8 base rows bytes true e = of_text base rows bytes (IsUtf8-from_is_utf8 by
 by_utf8 base rows bytes false e =
     (not_utf8 (utf8_valid_len bytes), ((λ utf8. true≢false (sym (is_utf8-from_IsUtf8 bytes utf8) ∙ e)), refl))
 
-pub every_outcome : (base : List ℕ) (rows : List Triple) (bytes : List ℕ) → (o : Outcome) × IsReadAs (beginning base rows) bytes o
+pub every_outcome : HasSomeOutcome
 every_outcome base rows bytes = by_utf8 base rows bytes (is_utf8 bytes) refl
