@@ -1,2 +1,4 @@
+mod marks;
 mod ports;
+mod reading;
 mod steps;
