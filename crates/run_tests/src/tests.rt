@@ -1,4 +1,6 @@
+mod marks;
 mod ports;
+mod reading;
 mod runs;
 mod sessions;
 mod steps;

@@ -31,7 +31,7 @@ impl<T: Tickets> Marks for Pen<'_, T> {
 
     ghost can_mark = { λ pen. (1 ≤ T.left pen.tickets.now) × (1 ≤ pen.log.now.spare) };
 
-    ghost marked = { λ pen entry ticket after. Writes T.left T.drawn T.rest pen.tickets.now pen.log.now entry ticket after.tickets.now after.log.now × (after.actor ≡ pen.actor) };
+    ghost marked = { λ pen entry ticket after. Writes T.left T.drawn T.rest pen.tickets.now pen.log.now entry ticket after.tickets.now after.log.now × (after.actor ≡ pen.actor) × (after.tickets.ghost_name ≡ pen.tickets.ghost_name) × (after.log.ghost_name ≡ pen.log.ghost_name) };
 
     fn actor(&self) -> u32 {
         self.actor
