@@ -12,3 +12,4 @@ pub mod OneAnswer
 pub mod Readings
 pub mod Firsts
 pub mod Keyed
+pub mod Timed

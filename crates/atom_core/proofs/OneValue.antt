@@ -32,7 +32,7 @@ i32_back : (z : ℤ) → FitsSigned w32 z → cast_signed w32 (from_le_bytes w32
 unfolding i32
 i32_back z fits = ap (cast_signed w32) (from_le_bytes-to_le_bytes_4 (cast_unsigned w32 z) (omega (arith, Fits-of_z {w = w32} {z = z} fits))) ∙ to_z-of_z w32 z fits
 
-i64_back : (z : ℤ) → FitsSigned w64 z → cast_signed w64 (from_le_bytes w64 (i64 z)) ≡ z
+pub i64_back : (z : ℤ) → FitsSigned w64 z → cast_signed w64 (from_le_bytes w64 (i64 z)) ≡ z
 unfolding i64
 i64_back z fits = ap (cast_signed w64) (from_le_bytes-to_le_bytes_8 (cast_unsigned w64 z) (omega (arith, Fits-of_z {w = w64} {z = z} fits))) ∙ to_z-of_z w64 z fits
 

@@ -1,5 +1,5 @@
 -- What the readers of a view give, of any value that its bytes spell.
-use Rattle.std.proofs.Common.{◌≡◌, ℕ, ◌+◌, ◌-◌, ◌≤◌, true, false, List, length, drop, take, slice_range, Option, Some, ℤ, refl, sym, ap, ◌∙◌, subst, arith, ◌++◌}
+use Rattle.std.proofs.Common.{◌≡◌, ℕ, ◌+◌, ◌-◌, ◌≤◌, true, false, List, length, drop, take, slice_range, Option, Some, ℤ, refl, sym, ap, ◌∙◌, subst, arith, ◌++◌, replicate}
 use Rattle.std.specs.Int.{w32, w64, from_le_bytes, cast_signed}
 use Rattle.std.proofs.lemmas.Bool.{eqb-true, leb-true}
 use Rattle.std.proofs.lemmas.List.{take_all, get_or-drop, length-drop, take_rest, length-append, drop_at}
@@ -12,7 +12,7 @@ use Rattle.atom_core.specs.Fits.{Fits}
 use Rattle.atom_core.specs.Content.{IsOwn, form_at}
 use Rattle.atom_core.specs.Answer.{Spells}
 use Rattle.atom_core.specs.Readers.{int_of, long_of, fixed_of, urid_of, text_of}
-use Rattle.atom_core.specs.Atoms.{SpellAtoms, parts_in, HoldsAtoms, SpellProperties, properties_in, HoldsProperties}
+use Rattle.atom_core.specs.Atoms.{SpellAtoms, parts_in, HoldsAtoms, SpellProperties, properties_in, HoldsProperties, SpellEvents, events_in, HoldsEvents}
 use Rattle.atom_core.proofs.OneValue.{plain_by, plain_from, plain_back, plain_leaf, container_holds}
 use Rattle.atom_core.proofs.Numbers.{u32-length}
 use Rattle.atom_core.proofs.Reading.{atom_says, own_well}
@@ -170,3 +170,36 @@ holds_properties bytes v left spells e same =
     let t = object_here bytes v spells e in
     let here : SpellProperties left t.parts = subst (λ (b : List ℕ). SpellProperties b t.parts) (sym same) t.spells in
     subst (λ p. HoldsProperties (Some left) p) (sym t.parts_are) here
+
+pub wide_front : (bytes : List ℕ) → wide_at bytes 0 ≡ from_le_bytes w64 bytes
+unfolding wide_at
+wide_front bytes = refl
+
+-- the events of a sequence
+pub record SequenceHere (bytes : List ℕ) (v : Value) : Type 0 where
+  pub parts : Parts
+  pub parts_are : events_in v ≡ Some parts
+  pub room : 8 ≤ length (drop 8 bytes)
+  pub spells : SpellEvents (drop 8 (drop 8 bytes)) parts
+
+pub sequence_here : (bytes : List ℕ) (v : Value) → Spells bytes v → kind_at bytes 0 ≡ 10 → SequenceHere bytes v
+unfolding form_of
+sequence_here bytes (plain p) spells e =
+    let kind : plain_kind p ≡ 10 = sym (says bytes (plain p) spells).kind ∙ e in
+    absurd (apart (sym (plain_leaf p spells.fits.0) ∙ ap (λ k. is_container (form_of k)) kind))
+sequence_here bytes (holding tuple ps) spells e = absurd (omega (arith, (says bytes (holding tuple ps) spells).kind, e))
+sequence_here bytes (holding (object id kind) ps) spells e = absurd (omega (arith, (says bytes (holding (object id kind) ps) spells).kind, e))
+sequence_here bytes (holding sequence ps) spells e =
+    let body : drop 8 bytes ≡ replicate 8 0 ++ parts_of ps = (says bytes (holding sequence ps) spells).body in
+    record {
+      parts = ps;
+      parts_are = refl;
+      room = omega (arith, ap length body, length-append (replicate 8 0) (parts_of ps));
+      spells = (spells.fits.2, ap (drop 8) body ∙ drop_at (replicate 8 0) (parts_of ps) 8 refl);
+    }
+
+pub holds_events : (bytes : List ℕ) (v : Value) (left : List ℕ) → Spells bytes v → kind_at bytes 0 ≡ 10 → left ≡ drop 8 (drop 8 bytes) → HoldsEvents (Some left) (events_in v)
+holds_events bytes v left spells e same =
+    let t = sequence_here bytes v spells e in
+    let here : SpellEvents left t.parts = subst (λ (b : List ℕ). SpellEvents b t.parts) (sym same) t.spells in
+    subst (λ p. HoldsEvents (Some left) p) (sym t.parts_are) here

@@ -1,7 +1,7 @@
 -- The atoms of a tuple, one behind the other.
 use Rattle.std.specs.Prelude.{◌≡◌, ℕ, List, Option, None, Some}
-use Rattle.atom_core.specs.declared.form.Form.TheVariants.{Tuple, Object}
-use Rattle.atom_core.specs.Value.{Value, holding, tuple, object, Parts}
+use Rattle.atom_core.specs.declared.form.Form.TheVariants.{Tuple, Object, Sequence}
+use Rattle.atom_core.specs.Value.{Value, holding, tuple, object, sequence, Parts}
 use Rattle.atom_core.specs.Spelling.{parts_of}
 use Rattle.atom_core.specs.Fits.{PartsFit}
 use Rattle.atom_core.specs.Answer.{most_containers}
@@ -45,3 +45,23 @@ HoldsProperties None None = Unit {0}
 HoldsProperties (Some bytes) (Some parts) = SpellProperties bytes parts
 HoldsProperties None (Some parts) = ⊥
 HoldsProperties (Some bytes) None = ⊥
+
+-- the bytes spell these events
+abbrev pub SpellEvents : List ℕ → Parts → Type 0
+SpellEvents bytes parts = PartsFit most_containers Sequence parts × (bytes ≡ parts_of parts)
+
+-- the bytes spell events
+abbrev pub AreEvents : List ℕ → Type 0
+AreEvents bytes = (parts : Parts) × SpellEvents bytes parts
+
+-- a value's events, if it is a sequence
+abbrev pub events_in : Value → Option Parts
+events_in (holding sequence parts) = Some parts
+events_in value = None
+
+-- an iterator over these events, or none where there are none
+abbrev pub HoldsEvents : Option (List ℕ) → Option Parts → Type 0
+HoldsEvents None None = Unit {0}
+HoldsEvents (Some bytes) (Some parts) = SpellEvents bytes parts
+HoldsEvents None (Some parts) = ⊥
+HoldsEvents (Some bytes) None = ⊥

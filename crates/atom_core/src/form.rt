@@ -5,7 +5,7 @@ ghost use Rattle.atom_core.specs.Place.{number_at};
 use crate::number::u32_at;
 
 /// What the body of an atom is made of, as its type says.
-#[derive(Clone, Copy, PartialEq, Eq)]
+#[derive(Clone, Copy)]
 pub enum Form {
     /// Any bytes.
     Any,

@@ -2,6 +2,7 @@
 #![tactic(auto)]
 
 mod content;
+mod events;
 mod fault;
 mod form;
 mod kind;
@@ -13,6 +14,7 @@ mod parts;
 mod properties;
 mod view;
 
+pub use events::{Events, events_of};
 pub use fault::AtomFault;
 pub use laws::{one_answer, one_spelling, one_value};
 pub use outer::check;

@@ -1,3 +1,4 @@
 mod answers;
+mod events;
 mod nesting;
 mod views;
