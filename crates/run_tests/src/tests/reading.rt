@@ -59,6 +59,93 @@ END
 
 ";
 
+/// A run of two instances in two blocks.
+const WHOLE: &str = "lv2fx-record 1
+C begin make 0
+C end make 0
+C begin make 1
+C end make 1
+C begin activate 0
+C end activate 0
+C begin activate 1
+C end activate 1
+A block 0
+A look CA 0
+A begin run 0
+A end run 0
+A begin run 1
+A end run 1
+A done 0
+A block 1
+A look CA 0
+A begin run 0
+A end run 0
+A begin run 1
+A end run 1
+A done 1
+A stop
+C beat 3
+C send CW1
+W1 take CW1
+W1 stop
+C join
+C begin deactivate 0
+C end deactivate 0
+C begin deactivate 1
+C end deactivate 1
+C begin cleanup 0
+C end cleanup 0
+C begin cleanup 1
+C end cleanup 1
+end
+";
+
+/// A state is restored between two blocks, by messages with audio and the worker.
+const RESTORED: &str = "lv2fx-record 1
+C beat 2
+C send CA
+A block 2
+A look CA 1
+A take CA
+A send AC
+A done 2
+C take AC
+C send CW1
+W1 take CW1
+W1 send WC1
+C take WC1
+C begin restore 0
+C end restore 0
+C send CW1
+C send CA
+W1 take CW1
+A block 3
+A look CA 1
+A take CA
+A begin run 0
+A end run 0
+A done 3
+A stop
+end
+";
+
+/// A state is restored by a worker beside the runs of audio, which makes a job of its own.
+const RESTORED_SAFELY: &str = "lv2fx-record 1
+C beat 1
+C send CW1
+W1 take CW1
+W1 begin restore_safe 0
+W1 send L0
+W1 end restore_safe 0
+W1 take L0
+W1 begin work 0
+W1 send R0
+W1 end work 0
+W1 send WC1
+C take WC1
+end
+";
+
 /// Why a text is no record.
 fn fault_of(alloc: Global, text: &[u8]) -> Option<RecordFault> {
     match read(alloc, text) {
@@ -75,16 +162,30 @@ fn with_line(alloc: Global, line: &str) -> Result<Bytes, NoMemory> {
     Ok(text)
 }
 
-#[test]
-fn what_is_written_is_read(rt: HostRuntime) -> Result<(), Fail> {
-    let alloc = rt.alloc();
-    match read(alloc, LINES.as_bytes()) {
+/// Whether a text is a record, whose text it is again.
+fn is_read_and_written(alloc: Global, text: &str) -> Result<bool, NoMemory> {
+    match read(alloc, text.as_bytes()) {
         Ok(steps) => {
-            let text = write(alloc, &steps)?;
-            assert!(rt; text.as_slice() == LINES.as_bytes());
+            let written = write(alloc, &steps)?;
+            Ok(written.as_slice() == text.as_bytes())
         }
-        Err(_) => assert!(rt; false),
+        Err(_) => Ok(false),
     }
+}
+
+#[test]
+fn what_is_written_is_read(rt: HostRuntime) -> Result<(), NoMemory> {
+    let every_kind = is_read_and_written(rt.alloc(), LINES)?;
+    let whole = is_read_and_written(rt.alloc(), WHOLE)?;
+    assert!(rt; every_kind && whole);
+    Ok(())
+}
+
+#[test]
+fn restores_are_read(rt: HostRuntime) -> Result<(), NoMemory> {
+    let restored = is_read_and_written(rt.alloc(), RESTORED)?;
+    let safely = is_read_and_written(rt.alloc(), RESTORED_SAFELY)?;
+    assert!(rt; restored && safely);
     Ok(())
 }
 
