@@ -1,12 +1,9 @@
 -- What an IRI may not hold between its angle brackets: IRIREF of Turtle 1.1, section 6.5.
-use Rattle.std.specs.Prelude.{◌≡◌, ℕ, ◌<◌, Bool, ◌||◌, ◌==◌, nat_le, List, length, min}
+use Rattle.std.specs.Prelude.{◌≡◌, ℕ, ◌<◌, List, length, min}
 use Rattle.std.specs.List.{position_or_len}
 use Rattle.std.specs.Str.Lossy.{utf8_valid_len}
-
--- a control or a space, or one of `"`, `<`, `>`, the backslash, `^`, the backquote, `{`, `|` and `}`
-abbrev pub is_excluded : ℕ → Bool
-is_excluded c =
-    nat_le c 32 || c == 34 || c == 60 || c == 62 || c == 92 || c == 94 || c == 96 || c == 123 || c == 124 || c == 125
+-- the characters that the grammar of Turtle excludes
+pub use Rattle.turtle_grammar.specs.Characters.{is_excluded}
 
 -- the first place of an excluded character, or where the bytes aren't UTF-8 from there on, whichever is less; else the length
 abbrev pub first_bad : List ℕ → ℕ

@@ -7,6 +7,7 @@ ghost use Rattle.iri_resolve.specs.Excluded.{first_bad, IsFirstBad};
 /// backquote and the backslash. All of them are ASCII, so a byte of a longer character never is.
 ///
 /// `is_excluded(b' ')` is true, and `is_excluded(b'%')` false.
+#[tactic(auto, unfolding(turtle_grammar::specs::Characters::is_excluded))]
 pub fn is_excluded(byte: u8) -> bool
     ensures { result ≡ spec.is_excluded byte }
 {

@@ -49,6 +49,7 @@ impl Urids {
     }
 
     /// The same, with a seed for its hashes.
+    #[tactic(auto, unfolding(turtle_grammar::specs::Characters::is_excluded))]
     pub fn with_seed(alloc: Global, seed: u128) -> Result<Self, NoMemory>
         ensures { IfOk result (λ urids. urids ≡ initial) }
     {
