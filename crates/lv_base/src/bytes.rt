@@ -1,6 +1,7 @@
-ghost use Rattle.std.specs.Prelude.{◌≡◌, [], ◌++◌, length, OnOk, OnErr, IfOk};
+ghost use Rattle.std.specs.Prelude.{◌≡◌, [], ◌++◌, decimal, length, OnOk, OnErr, IfOk};
 
 use crate::NoMemory;
+use itoa::Buffer;
 use std::alloc::Global;
 use std::marker::Model;
 
@@ -50,6 +51,23 @@ impl Bytes {
     {
         self.buffer.extend_from_slice(more)?;
         Ok(())
+    }
+
+    /// Adds the characters of a text at the end. A refusal leaves all as before.
+    pub fn push_str(&mut self, text: &str) -> Result<(), NoMemory>
+        ensures ok { OnOk result (self.new ≡ self.old ++ text.now) }
+        ensures err { OnErr result (self.new ≡ self.old) }
+    {
+        self.push_all(text.as_bytes())
+    }
+
+    /// Adds the digits of a number at the end, with no zero before them. A refusal leaves all as before.
+    pub fn push_decimal(&mut self, number: u64) -> Result<(), NoMemory>
+        ensures ok { OnOk result (self.new ≡ self.old ++ decimal number) }
+        ensures err { OnErr result (self.new ≡ self.old) }
+    {
+        let mut digits = Buffer::new();
+        self.push_str(digits.format(number))
     }
 
     /// Leaves no bytes, and keeps the memory.

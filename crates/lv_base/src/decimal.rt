@@ -44,7 +44,7 @@ pub fn parse_decimal(text: &[u8]) -> Result<Fixed, NumFault>
 }
 
 /// Whether a text begins with `-`, and what follows its sign.
-fn split_sign(text: &[u8]) -> (bool, &[u8])
+pub fn split_sign(text: &[u8]) -> (bool, &[u8])
     ensures negative { result.0 ≡ is_negative text.now }
     ensures rest { result.1.now ≡ after_sign text.now }
 {
@@ -82,14 +82,14 @@ fn cut(text: &[u8], place: Option<usize>) -> (&[u8], Option<&[u8]>)
 }
 
 /// Whether there are digits alone.
-fn are_digits(text: &[u8]) -> bool
+pub fn are_digits(text: &[u8]) -> bool
     ensures { result ≡ are_digits text.now }
 {
     text.iter().all(|c| c.is_ascii_digit())
 }
 
 /// Whether there are digits alone, and at least one.
-fn are_some_digits(text: &[u8]) -> bool
+pub fn are_some_digits(text: &[u8]) -> bool
     ensures { result ≡ are_some_digits text.now }
 {
     !text.is_empty() && are_digits(text)

@@ -6,7 +6,7 @@ ghost use Rattle.plugin_decl.specs.Values.{text_in, iri_in, is_literal, is_untag
 
 use crate::objects::objects;
 use crate::vocabulary::Word;
-use lv_base::{Fixed, Text, parse_decimal};
+use lv_base::{Fixed, Text, are_digits, are_some_digits, parse_decimal, split_sign};
 use triple_store::{Store, Term};
 
 /// Numbers are counted up to this, which no `u32` reaches.
@@ -102,32 +102,6 @@ fn within(most: u32, negative: bool, number: u64) -> Option<u32>
         return None;
     }
     Some(number as u32)
-}
-
-/// Whether a text begins with `-`, and what follows its sign.
-fn split_sign(text: &[u8]) -> (bool, &[u8])
-    ensures negative { result.0 ≡ is_negative text.now }
-    ensures rest { result.1.now ≡ after_sign text.now }
-{
-    match text {
-        [b'-', rest @ ..] => (true, rest),
-        [b'+', rest @ ..] => (false, rest),
-        _ => (false, text),
-    }
-}
-
-/// Whether there are digits alone.
-fn are_digits(text: &[u8]) -> bool
-    ensures { result ≡ are_digits text.now }
-{
-    text.iter().all(|c| c.is_ascii_digit())
-}
-
-/// Whether there are digits alone, and at least one.
-fn are_some_digits(text: &[u8]) -> bool
-    ensures { result ≡ are_some_digits text.now }
-{
-    !text.is_empty() && are_digits(text)
 }
 
 /// The number that digits spell, up to `BEYOND`.

@@ -4,7 +4,6 @@
 mod listing;
 mod rule;
 mod uris;
-mod words;
 
 pub use listing::{push_count, push_plugin};
 pub use rule::push_rule;

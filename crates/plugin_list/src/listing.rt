@@ -1,7 +1,6 @@
 ghost use Rattle.std.specs.Prelude.{◌≡◌, ◌++◌, OnOk};
 ghost use Rattle.plugin_list.specs.Listing.{direction_text, kind_text, flow_text, port_line, plugin_line, plugin_lines, count_line};
 
-use crate::words::{push, push_number};
 use lv_base::{Bytes, NoMemory};
 use plugin_decl::{Decl, Port, PortKind};
 
@@ -23,42 +22,42 @@ pub fn push_plugin(into: &mut Bytes, plugin: &Decl) -> Result<(), NoMemory>
 pub fn push_count(into: &mut Bytes, count: usize) -> Result<(), NoMemory>
     ensures { OnOk result (into.new ≡ into.old ++ count_line count) }
 {
-    push(into, "plugins ")?;
-    push_number(into, count)?;
-    push(into, "\n")
+    into.push_str("plugins ")?;
+    into.push_decimal(count as u64)?;
+    into.push_str("\n")
 }
 
 fn push_head(into: &mut Bytes, plugin: &Decl) -> Result<(), NoMemory>
     ensures { OnOk result (into.new ≡ into.old ++ plugin_line plugin.now) }
 {
-    push(into, "plugin ")?;
-    push(into, plugin.uri.as_str())?;
-    push(into, " ")?;
-    push_number(into, plugin.minor as usize)?;
-    push(into, " ")?;
-    push_number(into, plugin.micro as usize)?;
-    push(into, "\n")
+    into.push_str("plugin ")?;
+    into.push_str(plugin.uri.as_str())?;
+    into.push_str(" ")?;
+    into.push_decimal(u64::from(plugin.minor))?;
+    into.push_str(" ")?;
+    into.push_decimal(u64::from(plugin.micro))?;
+    into.push_str("\n")
 }
 
 fn push_port(into: &mut Bytes, port: &Port) -> Result<(), NoMemory>
     ensures { OnOk result (into.new ≡ into.old ++ port_line port.now) }
 {
-    push(into, "port ")?;
-    push_number(into, port.index as usize)?;
-    push(into, " ")?;
-    push(into, port.symbol.as_str())?;
+    into.push_str("port ")?;
+    into.push_decimal(u64::from(port.index))?;
+    into.push_str(" ")?;
+    into.push_str(port.symbol.as_str())?;
     push_flow(into, port)?;
-    push(into, "\n")
+    into.push_str("\n")
 }
 
 // Which way what class of data goes.
 fn push_flow(into: &mut Bytes, port: &Port) -> Result<(), NoMemory>
     ensures { OnOk result (into.new ≡ into.old ++ flow_text port.now) }
 {
-    push(into, " ")?;
-    push(into, direction(port.input))?;
-    push(into, " ")?;
-    push(into, class(port.kind))
+    into.push_str(" ")?;
+    into.push_str(direction(port.input))?;
+    into.push_str(" ")?;
+    into.push_str(class(port.kind))
 }
 
 fn direction(input: bool) -> &'static str

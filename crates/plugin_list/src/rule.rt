@@ -1,7 +1,6 @@
 ghost use Rattle.std.specs.Prelude.{◌≡◌, ◌++◌, OnOk};
 ghost use Rattle.plugin_list.specs.Rules.{with_number, with_term, named_term, rule_text};
 
-use crate::words::{push, push_number};
 use lv_base::{Bytes, NoMemory};
 use plugin_decl::DeclFault;
 use triple_list::push_term;
@@ -15,7 +14,7 @@ pub fn push_rule(into: &mut Bytes, fault: &DeclFault) -> Result<(), NoMemory>
     ensures { OnOk result (into.new ≡ into.old ++ rule_text fault.now) }
 {
     match fault {
-        DeclFault::NoPlugin => push(into, "no-plugin"),
+        DeclFault::NoPlugin => into.push_str("no-plugin"),
         DeclFault::BadIndex(place) => push_with_number(into, "bad-index", *place),
         DeclFault::SameIndex(index) => push_with_index(into, "same-index", *index),
         DeclFault::Gap(index) => push_with_index(into, "gap", *index),
@@ -41,16 +40,16 @@ fn push_with_index(into: &mut Bytes, word: &str, index: u32) -> Result<(), NoMem
 fn push_with_number(into: &mut Bytes, word: &str, number: usize) -> Result<(), NoMemory>
     ensures { OnOk result (into.new ≡ into.old ++ with_number word.now number) }
 {
-    push(into, word)?;
-    push(into, " ")?;
-    push_number(into, number)
+    into.push_str(word)?;
+    into.push_str(" ")?;
+    into.push_decimal(number as u64)
 }
 
 fn push_with_term(into: &mut Bytes, word: &str, term: &Term) -> Result<(), NoMemory>
     ensures { OnOk result (into.new ≡ into.old ++ with_term word.now term.now) }
 {
-    push(into, word)?;
-    push(into, " ")?;
+    into.push_str(word)?;
+    into.push_str(" ")?;
     push_named(into, term)
 }
 
@@ -59,7 +58,7 @@ fn push_named(into: &mut Bytes, term: &Term) -> Result<(), NoMemory>
     ensures { OnOk result (into.new ≡ into.old ++ named_term term.now) }
 {
     match term {
-        Term::Iri(iri) => push(into, iri.as_str()),
+        Term::Iri(iri) => into.push_str(iri.as_str()),
         _ => push_term(into, term),
     }
 }

@@ -4,7 +4,6 @@ ghost use Rattle.step_law.specs.Ring.{ring_name};
 ghost use Rattle.step_record.specs.RecordText.{record_text, line_of, event_text, ring_text, called_text};
 
 use crate::{Actor, Call, Entry, Kind, Record, Ring};
-use itoa::Buffer;
 use lv_base::{Bytes, NoMemory};
 use std::alloc::Global;
 
@@ -23,11 +22,11 @@ pub(crate) fn push_line(text: &mut Bytes, entry: &Entry) -> Result<(), NoMemory>
     ensures { OnOk result (text.new ≡ text.old ++ line_of entry.now) }
 {
     if entry.kind == Kind::Last {
-        return push(text, "end\n");
+        return text.push_str("end\n");
     }
     push_actor(text, Actor::from_number(entry.actor))?;
     push_event(text, entry)?;
-    push(text, "\n")
+    text.push_str("\n")
 }
 
 fn push_event(text: &mut Bytes, entry: &Entry) -> Result<(), NoMemory>
@@ -44,11 +43,11 @@ fn push_event(text: &mut Bytes, entry: &Entry) -> Result<(), NoMemory>
         Kind::Full => push_on_ring(text, " full ", entry.a),
         Kind::Long => push_on_ring(text, " long ", entry.a),
         Kind::Done => push_numbered(text, " done ", entry.a),
-        Kind::Stop => push(text, " stop"),
+        Kind::Stop => text.push_str(" stop"),
         Kind::Begin => push_called(text, " begin ", entry.a, entry.b),
         Kind::End => push_called(text, " end ", entry.a, entry.b),
         Kind::Beat => push_numbered(text, " beat ", entry.a),
-        Kind::Join => push(text, " join"),
+        Kind::Join => text.push_str(" join"),
         Kind::Late => push_numbered(text, " late ", entry.a),
         Kind::Last => Ok(()),
     }
@@ -58,8 +57,8 @@ fn push_actor(text: &mut Bytes, actor: Actor) -> Result<(), NoMemory>
     ensures { OnOk result (text.new ≡ text.old ++ actor_name actor) }
 {
     match actor {
-        Actor::Audio => push(text, "A"),
-        Actor::Control => push(text, "C"),
+        Actor::Audio => text.push_str("A"),
+        Actor::Control => text.push_str("C"),
         Actor::Worker(worker) => push_numbered(text, "W", worker),
     }
 }
@@ -67,7 +66,7 @@ fn push_actor(text: &mut Bytes, actor: Actor) -> Result<(), NoMemory>
 fn push_on_ring(text: &mut Bytes, words: &str, ring: u32) -> Result<(), NoMemory>
     ensures { OnOk result (text.new ≡ text.old ++ (words.now ++ ring_text ring)) }
 {
-    push(text, words)?;
+    text.push_str(words)?;
     push_ring(text, Ring::from_number(ring))
 }
 
@@ -75,8 +74,8 @@ fn push_ring(text: &mut Bytes, ring: Ring) -> Result<(), NoMemory>
     ensures { OnOk result (text.new ≡ text.old ++ ring_name ring) }
 {
     match ring {
-        Ring::ControlToAudio => push(text, "CA"),
-        Ring::AudioToControl => push(text, "AC"),
+        Ring::ControlToAudio => text.push_str("CA"),
+        Ring::AudioToControl => text.push_str("AC"),
         Ring::ControlToWorker(worker) => push_numbered(text, "CW", worker),
         Ring::WorkerToControl(worker) => push_numbered(text, "WC", worker),
         Ring::Jobs(inst) => push_numbered(text, "J", inst),
@@ -88,10 +87,10 @@ fn push_ring(text: &mut Bytes, ring: Ring) -> Result<(), NoMemory>
 fn push_called(text: &mut Bytes, words: &str, call: u32, inst: u32) -> Result<(), NoMemory>
     ensures { OnOk result (text.new ≡ text.old ++ (words.now ++ called_text call inst)) }
 {
-    push(text, words)?;
+    text.push_str(words)?;
     match Call::from_number(call) {
-        Some(call) => push(text, call.name())?,
-        None => push(text, "unknown")?,
+        Some(call) => text.push_str(call.name())?,
+        None => text.push_str("unknown")?,
     }
     push_numbered(text, " ", inst)
 }
@@ -99,13 +98,6 @@ fn push_called(text: &mut Bytes, words: &str, call: u32, inst: u32) -> Result<()
 fn push_numbered(text: &mut Bytes, words: &str, number: u32) -> Result<(), NoMemory>
     ensures { OnOk result (text.new ≡ text.old ++ (words.now ++ decimal number)) }
 {
-    let mut buffer = Buffer::new();
-    push(text, words)?;
-    push(text, buffer.format(number))
-}
-
-fn push(text: &mut Bytes, words: &str) -> Result<(), NoMemory>
-    ensures { OnOk result (text.new ≡ text.old ++ words.now) }
-{
-    text.push_all(words.as_bytes())
+    text.push_str(words)?;
+    text.push_decimal(u64::from(number))
 }

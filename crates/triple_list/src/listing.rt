@@ -1,8 +1,7 @@
 ghost use Rattle.std.specs.Prelude.{◌≡◌, ◌++◌, OnOk, length};
 ghost use Rattle.triple_list.specs.Listing.{triple_line, count_line, listing_of};
 
-use crate::term::{push, push_term};
-use itoa::Buffer;
+use crate::term::push_term;
 use lv_base::{Bytes, NoMemory};
 use triple_store::Triple;
 
@@ -26,18 +25,17 @@ fn push_line(into: &mut Bytes, row: &Triple) -> Result<(), NoMemory>
     ensures { OnOk result (into.new ≡ into.old ++ triple_line row.now) }
 {
     push_term(into, &row.s)?;
-    push(into, " ")?;
+    into.push_str(" ")?;
     push_term(into, &row.p)?;
-    push(into, " ")?;
+    into.push_str(" ")?;
     push_term(into, &row.o)?;
-    push(into, "\n")
+    into.push_str("\n")
 }
 
 fn push_count(into: &mut Bytes, count: usize) -> Result<(), NoMemory>
     ensures { OnOk result (into.new ≡ into.old ++ count_line count) }
 {
-    let mut buffer = Buffer::new();
-    push(into, "triples ")?;
-    push(into, buffer.format(count))?;
-    push(into, "\n")
+    into.push_str("triples ")?;
+    into.push_decimal(count as u64)?;
+    into.push_str("\n")
 }

@@ -2,7 +2,6 @@ ghost use Rattle.std.specs.Prelude.{◌≡◌, ◌++◌, OnOk, decimal};
 ghost use Rattle.triple_list.specs.Listing.{iri_text, blank_text, datatype_text, kind_text, literal_text, term_text};
 
 use crate::escape::push_escaped;
-use itoa::Buffer;
 use lv_base::{Bytes, NoMemory, Text};
 use triple_store::Term;
 
@@ -27,25 +26,24 @@ pub fn push_term(into: &mut Bytes, term: &Term) -> Result<(), NoMemory>
 fn push_iri(into: &mut Bytes, iri: &Text) -> Result<(), NoMemory>
     ensures { OnOk result (into.new ≡ into.old ++ iri_text iri.now) }
 {
-    push(into, "<")?;
-    push(into, iri.as_str())?;
-    push(into, ">")
+    into.push_str("<")?;
+    into.push_str(iri.as_str())?;
+    into.push_str(">")
 }
 
 fn push_blank(into: &mut Bytes, number: u32) -> Result<(), NoMemory>
     ensures { OnOk result (into.new ≡ into.old ++ blank_text number) }
 {
-    let mut buffer = Buffer::new();
-    push(into, "_:")?;
-    push(into, buffer.format(number))
+    into.push_str("_:")?;
+    into.push_decimal(u64::from(number))
 }
 
 fn push_literal(into: &mut Bytes, text: &Text, datatype: &Text, lang: &Text) -> Result<(), NoMemory>
     ensures { OnOk result (into.new ≡ into.old ++ literal_text text.now datatype.now lang.now) }
 {
-    push(into, "\"")?;
+    into.push_str("\"")?;
     push_escaped(into, text.as_bytes())?;
-    push(into, "\"")?;
+    into.push_str("\"")?;
     push_kind(into, datatype, lang)
 }
 
@@ -56,8 +54,8 @@ fn push_kind(into: &mut Bytes, datatype: &Text, lang: &Text) -> Result<(), NoMem
     if lang.as_bytes().is_empty() {
         return push_datatype(into, datatype);
     }
-    push(into, "@")?;
-    push(into, lang.as_str())
+    into.push_str("@")?;
+    into.push_str(lang.as_str())
 }
 
 fn push_datatype(into: &mut Bytes, datatype: &Text) -> Result<(), NoMemory>
@@ -66,12 +64,6 @@ fn push_datatype(into: &mut Bytes, datatype: &Text) -> Result<(), NoMemory>
     if datatype.as_str() == STRING {
         return Ok(());
     }
-    push(into, "^^")?;
+    into.push_str("^^")?;
     push_iri(into, datatype)
-}
-
-pub(crate) fn push(into: &mut Bytes, words: &str) -> Result<(), NoMemory>
-    ensures { OnOk result (into.new ≡ into.old ++ words.now) }
-{
-    into.push_all(words.as_bytes())
 }

@@ -47,11 +47,11 @@ fn texts_are_printed(rt: HostRuntime) -> Result<(), Fail> {
     Ok(())
 }
 
-/// Whether the bytes are `ab`, and `abc` with one more, and none when cleared.
+/// Whether the bytes are `ab`, then with more `abc` and the greatest number of 64 bits, and none when cleared.
 fn grow(bytes: &mut Bytes) -> bool {
     let is_short = bytes.as_slice() == b"ab".as_slice();
-    let is_pushed = bytes.push_all(b"c").is_ok();
-    let is_long = bytes.as_slice() == b"abc".as_slice();
+    let is_pushed = bytes.push_str("c").is_ok() && bytes.push_decimal(u64::MAX).is_ok();
+    let is_long = bytes.as_slice() == b"abc18446744073709551615".as_slice();
     bytes.clear();
     is_short && is_pushed && is_long && bytes.len() == 0
 }

@@ -8,4 +8,4 @@ pub returns : goal.returns
 returns c =
     let other : bytes_eq c.as_str.result.now xsd_string ≡ false = sym c.eq.ensures ∙ c.if-eq.false in
     let here : bytes_eq c.args.datatype.now xsd_string ≡ false = rw (← c.as_str.ensures) other in
-    rw (is_written _ here, ← append_assoc c.args.into.now (codes "^^") (iri_text c.args.datatype.now), ← c.in_ok-push.ensures) c.push_iri.ensures
+    rw (is_written _ here, ← append_assoc c.args.into.now (codes "^^") (iri_text c.args.datatype.now), ← c.in_ok-push_str.ensures.ok) c.push_iri.ensures
