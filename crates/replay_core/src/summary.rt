@@ -2,7 +2,6 @@ ghost use Rattle.std.specs.Prelude.{◌≡◌, ◌≤◌, ◌<◌, ◌*◌, ◌+
 ghost use Rattle.replay_core.specs.Summary.{counted, jobs_part, responses_part, inst_line, inst_lines, size_line, last_lines, summary_of};
 
 use crate::count::{ended, events, refused, sent};
-use itoa::Buffer;
 use lv_base::{Bytes, NoMemory, Text};
 use session_script::Session;
 use std::alloc::Global;
@@ -28,7 +27,7 @@ fn push_size(text: &mut Bytes, session: &Session) -> Result<(), NoMemory>
     let frames = session.block * session.blocks;
     push_count(text, "frames ", frames as usize)?;
     push_count(text, " channels ", session.outs.len())?;
-    push(text, "\n")
+    text.push_str("\n")
 }
 
 fn push_insts(text: &mut Bytes, session: &Session, steps: &[Entry]) -> Result<(), NoMemory>
@@ -46,12 +45,12 @@ fn push_inst(text: &mut Bytes, name: &Text, inst: u32, steps: &[Entry]) -> Resul
     requires { inst < 32 }
     ensures { OnOk result (text.new ≡ text.old ++ inst_line name.now inst steps.now) }
 {
-    push(text, "inst ")?;
-    push(text, name.as_str())?;
+    text.push_str("inst ")?;
+    text.push_str(name.as_str())?;
     push_count(text, " runs ", ended(steps, Call::Run, inst))?;
     push_jobs(text, inst, steps)?;
     push_responses(text, inst, steps)?;
-    push(text, " errors 0\n")
+    text.push_str(" errors 0\n")
 }
 
 fn push_jobs(text: &mut Bytes, inst: u32, steps: &[Entry]) -> Result<(), NoMemory>
@@ -78,23 +77,16 @@ fn push_responses(text: &mut Bytes, inst: u32, steps: &[Entry]) -> Result<(), No
 fn push_last(text: &mut Bytes, entries: usize) -> Result<(), NoMemory>
     ensures { OnOk result (text.new ≡ text.old ++ last_lines entries) }
 {
-    push(text, "saves 0\n")?;
-    push(text, "late 0\n")?;
-    push(text, "lost 0\n")?;
+    text.push_str("saves 0\n")?;
+    text.push_str("late 0\n")?;
+    text.push_str("lost 0\n")?;
     push_count(text, "entries ", entries)?;
-    push(text, "\n")
+    text.push_str("\n")
 }
 
 fn push_count(text: &mut Bytes, name: &str, count: usize) -> Result<(), NoMemory>
     ensures { OnOk result (text.new ≡ text.old ++ counted name.now count) }
 {
-    let mut buffer = Buffer::new();
-    push(text, name)?;
-    push(text, buffer.format(count))
-}
-
-fn push(text: &mut Bytes, words: &str) -> Result<(), NoMemory>
-    ensures { OnOk result (text.new ≡ text.old ++ words.now) }
-{
-    text.push_all(words.as_bytes())
+    text.push_str(name)?;
+    text.push_decimal(count as u64)
 }

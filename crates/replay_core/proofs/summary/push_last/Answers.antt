@@ -4,4 +4,4 @@ use Rattle.replay_core.proofs.summary.push_last.Goals as goal
 
 pub returns : goal.returns
 returns c =
-    IfOk-equal c.push-4.result _ _ _ c.push-4.ensures (five-pieces _ _ _ _ _ _ _ _ _ _ c.in_ok-push.ensures c.in_ok-push-2.ensures c.in_ok-push-3.ensures c.in_ok-push_count.ensures)
+    IfOk-equal c.push_str-4.result _ _ _ c.push_str-4.ensures.ok (five-pieces _ _ _ _ _ _ _ _ _ _ c.in_ok-push_str.ensures.ok c.in_ok-push_str-2.ensures.ok c.in_ok-push_str-3.ensures.ok c.in_ok-push_count.ensures)
