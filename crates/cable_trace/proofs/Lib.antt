@@ -1,0 +1,6 @@
+mod Below
+mod Orders
+mod Tells
+mod Above
+mod SenderKeeps
+mod TakerKeeps

@@ -1,0 +1,65 @@
+-- Each step keeps what holds of a ring. The two traces may be one actor's: then a step of it is first the sender's and then the taker's.
+use Rattle.std.specs.Prelude.{◌≡◌, ℕ, ◌+◌, ◌<◌, [], ◌∷◌, ◌++◌, length}
+use Rattle.cable_trace.specs.declared.trace.Action.TheVariants.{Sent, Refused, Looked, Taken}
+use Rattle.cable_trace.specs.declared.trace.Pending.TheVariants.{Drew, Putting, Fetching, Took}
+use Rattle.cable_trace.specs.declared.trace.Trace.{Trace}
+use Rattle.cable_trace.specs.Trace.{drawn, sent, shown, moved}
+use Rattle.cable_trace.specs.Step.{fresh, with_pending, with_event, IsAbove, IsAboveSends, IsAboveTakes, SendsNothing, TakesNothing}
+use Rattle.cable_trace.specs.Ring.{Begins, messages, RingHolds}
+
+-- nothing has been done yet
+abbrev pub RingBegins : Type 0 → Type 0
+RingBegins M = (cells ring : ℕ) → RingHolds {M = M} cells ring fresh fresh
+
+-- what is above all tickets of an actor is above those of a ring
+abbrev pub AboveAll : Type 0 → Type 0
+AboveAll M = (ring ticket : ℕ) (trace : Trace M) → IsAbove ticket trace → IsAboveSends ring ticket trace × IsAboveTakes ring ticket trace
+
+-- a step of the sender away from the ring: no ticket, or one above all takes and looks
+abbrev pub SenderGoesOn : Type 0 → Type 0
+SenderGoesOn M = (cells ring : ℕ) (sender taker new : Trace M) → RingHolds cells ring sender taker
+    → SendsNothing ring sender new → drawn new ≡ drawn sender → RingHolds cells ring new taker
+
+abbrev pub SenderDraws : Type 0 → Type 0
+SenderDraws M = (cells ring ticket : ℕ) (sender taker new : Trace M) → RingHolds cells ring sender taker
+    → SendsNothing ring sender new → drawn new ≡ drawn sender ++ ticket ∷ [] → IsAboveTakes ring ticket taker → RingHolds cells ring new taker
+
+-- the sender has drawn a ticket, loads the head and sees that the ring is full
+abbrev pub SenderIsRefused : Type 0 → Type 0
+SenderIsRefused M = (cells ring ticket seen : ℕ) (sender taker : Trace M) → RingHolds cells ring sender taker
+    → sender.pending ≡ Drew ticket → IsAbove ticket sender → seen ≡ length (moved ring taker) → length (sent ring sender) ≡ seen + cells
+    → RingHolds cells ring (with_event sender ticket (Refused ring seen)) taker
+
+-- the sender has put the message into its cell and stores the tail
+abbrev pub SenderSends : Type 0 → Type 0
+SenderSends M = (cells ring ticket seen : ℕ) (message : M) (sender taker : Trace M) → RingHolds cells ring sender taker
+    → sender.pending ≡ Putting ring ticket seen → IsAbove ticket sender → length (sent ring sender) < length (moved ring taker) + cells
+    → RingHolds cells ring (with_event sender ticket (Sent ring seen message)) taker
+
+-- a step of the taker away from the ring: no ticket, or one above all sends
+abbrev pub TakerGoesOn : Type 0 → Type 0
+TakerGoesOn M = (cells ring : ℕ) (sender taker new : Trace M) → RingHolds cells ring sender taker
+    → TakesNothing ring taker new → drawn new ≡ drawn taker → RingHolds cells ring sender new
+
+abbrev pub TakerDraws : Type 0 → Type 0
+TakerDraws M = (cells ring ticket : ℕ) (sender taker new : Trace M) → RingHolds cells ring sender taker
+    → TakesNothing ring taker new → drawn new ≡ drawn taker ++ ticket ∷ [] → IsAboveSends ring ticket sender → RingHolds cells ring sender new
+
+-- the taker has drawn a ticket and loads the tail: all that was sent is shown
+abbrev pub TakerLooks : Type 0 → Type 0
+TakerLooks M = (cells ring ticket count : ℕ) (sender taker : Trace M) → RingHolds cells ring sender taker
+    → taker.pending ≡ Drew ticket → IsAbove ticket taker → count ≡ length (sent ring sender)
+    → (more : Begins (shown ring taker) (messages (sent ring sender)))
+    → RingHolds cells ring sender (with_event taker ticket (Looked ring count more.rest))
+
+-- the taker has moved the next message that was shown out of its cell and stores the head
+abbrev pub TakerMoves : Type 0 → Type 0
+TakerMoves M = (cells ring : ℕ) (message : M) (sender taker : Trace M) → RingHolds cells ring sender taker
+    → taker.pending ≡ Fetching ring message → Begins (moved ring taker ++ message ∷ []) (shown ring taker)
+    → RingHolds cells ring sender (with_pending taker (Took ring message))
+
+-- the taker draws the ticket of that take
+abbrev pub TakerTakes : Type 0 → Type 0
+TakerTakes M = (cells ring ticket : ℕ) (message : M) (sender taker : Trace M) → RingHolds cells ring sender taker
+    → taker.pending ≡ Took ring message → IsAboveSends ring ticket sender → IsAbove ticket taker
+    → RingHolds cells ring sender (with_event taker ticket (Taken ring message))

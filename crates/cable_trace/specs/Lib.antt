@@ -1,0 +1,5 @@
+pub mod Trace
+pub mod Step
+pub mod Order
+pub mod Ring
+pub mod Laws

@@ -1,0 +1,44 @@
+ghost use Rattle.cable_trace.specs.Laws.{RingBegins, AboveAll, SenderGoesOn, SenderDraws, SenderIsRefused, SenderSends, TakerGoesOn, TakerDraws, TakerLooks, TakerMoves, TakerTakes};
+
+/// All holds of a ring whose actors have done nothing.
+pub fn ring_begins<M>()
+    ensures { RingBegins M }
+{}
+
+/// A ticket above all of an actor's is above those that it has on a ring.
+pub fn above_all<M>()
+    ensures { AboveAll M }
+{}
+
+/// What a sender does away from a ring keeps what holds of the ring, whether it draws a ticket or not.
+pub fn sender_goes_on<M>()
+    ensures same { SenderGoesOn M }
+    ensures draws { SenderDraws M }
+{}
+
+/// A refusal keeps what holds of the ring.
+pub fn sender_is_refused<M>()
+    ensures { SenderIsRefused M }
+{}
+
+/// A send keeps what holds of the ring.
+pub fn sender_sends<M>()
+    ensures { SenderSends M }
+{}
+
+/// What a taker does away from a ring keeps what holds of the ring, whether it draws a ticket or not.
+pub fn taker_goes_on<M>()
+    ensures same { TakerGoesOn M }
+    ensures draws { TakerDraws M }
+{}
+
+/// A look keeps what holds of the ring.
+pub fn taker_looks<M>()
+    ensures { TakerLooks M }
+{}
+
+/// A take keeps what holds of the ring: first the message leaves it, and then the take gets its ticket.
+pub fn taker_takes<M>()
+    ensures moves { TakerMoves M }
+    ensures ticket { TakerTakes M }
+{}

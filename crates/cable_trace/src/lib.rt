@@ -1,0 +1,12 @@
+//! What the actors of a run did on the rings between them, as plain data, and the facts about a ring that each step keeps.
+//! No thread stands here.
+#![tactic(auto)]
+
+mod laws;
+mod trace;
+
+pub use laws::{
+    above_all, ring_begins, sender_goes_on, sender_is_refused, sender_sends, taker_goes_on,
+    taker_looks, taker_takes,
+};
+pub use trace::{Action, Event, Pending, Trace};
