@@ -4,3 +4,4 @@ mod Tells
 mod Above
 mod SenderKeeps
 mod TakerKeeps
+mod Elsewhere

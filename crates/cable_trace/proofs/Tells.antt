@@ -8,9 +8,10 @@ use Rattle.std.proofs.lemmas.List.{append-nil, map-append}
 use Rattle.std.proofs.lemmas.List.Elements.{All-nil, All-cons, All-head, All-tail, All-append, All-push}
 use Rattle.cable_trace.specs.declared.trace.Action.{Action}
 use Rattle.cable_trace.specs.declared.trace.Event.{Event}
+use Rattle.cable_trace.specs.declared.trace.Pending.TheVariants.{Drew}
 use Rattle.cable_trace.specs.declared.trace.Trace.{Trace}
 use Rattle.cable_trace.specs.Trace.{pending_ticket, drawn}
-use Rattle.cable_trace.specs.Step.{with_event, IsAbove}
+use Rattle.cable_trace.specs.Step.{with_pending, with_event, IsAbove}
 
 -- the choice at a ring's own number
 pub same_ring : {X : Type 0} (ring : ℕ) (here there : X) → (if ring == ring then here else there) ≡ here
@@ -64,3 +65,7 @@ module _ {M : Type 0} where
       each [] h = All-nil (λ t. t ≤ ticket)
       each (event ∷ events) h =
           All-cons (λ t. t ≤ ticket) event.ticket (map (λ x. x.ticket) events) (omega (arith, All-head (λ x. x.ticket < ticket) event events h)) (each events (All-tail (λ x. x.ticket < ticket) event events h))
+
+  pub drawn_first : (trace : Trace M) (ticket : ℕ) → pending_ticket trace.pending ≡ [] → drawn (with_pending trace (Drew ticket)) ≡ drawn trace ++ ticket ∷ []
+  drawn_first trace ticket e =
+      ap (λ l. l ++ ticket ∷ []) (sym (append-nil (map (λ event. event.ticket) trace.events)) ∙ ap (λ l. map (λ event. event.ticket) trace.events ++ l) (sym e))

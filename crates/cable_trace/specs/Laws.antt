@@ -1,10 +1,12 @@
 -- Each step keeps what holds of a ring. The two traces may be one actor's: then a step of it is first the sender's and then the taker's.
-use Rattle.std.specs.Prelude.{◌≡◌, ℕ, ◌+◌, ◌<◌, [], ◌∷◌, ◌++◌, length}
+use Rattle.std.specs.Prelude.{◌≡◌, ℕ, ◌+◌, ◌<◌, false, [], ◌∷◌, ◌++◌, length}
+use Rattle.cable_trace.specs.declared.trace.Action.{Action}
 use Rattle.cable_trace.specs.declared.trace.Action.TheVariants.{Sent, Refused, Looked, Taken}
+use Rattle.cable_trace.specs.declared.trace.Pending.{Pending}
 use Rattle.cable_trace.specs.declared.trace.Pending.TheVariants.{Drew, Putting, Fetching, Took}
 use Rattle.cable_trace.specs.declared.trace.Trace.{Trace}
-use Rattle.cable_trace.specs.Trace.{drawn, sent, shown, moved}
-use Rattle.cable_trace.specs.Step.{fresh, with_pending, with_event, IsAbove, IsAboveSends, IsAboveTakes, SendsNothing, TakesNothing}
+use Rattle.cable_trace.specs.Trace.{pending_ticket, taken_before_ticket, drawn, sent, shown, moved}
+use Rattle.cable_trace.specs.Step.{fresh, with_pending, with_event, IsAbove, IsAboveSends, IsAboveTakes, SendsNothing, TakesNothing, sends_on, takes_on}
 use Rattle.cable_trace.specs.Ring.{Begins, messages, RingHolds}
 
 -- nothing has been done yet
@@ -63,3 +65,38 @@ abbrev pub TakerTakes : Type 0 → Type 0
 TakerTakes M = (cells ring ticket : ℕ) (message : M) (sender taker : Trace M) → RingHolds cells ring sender taker
     → taker.pending ≡ Took ring message → IsAboveSends ring ticket sender → IsAbove ticket taker
     → RingHolds cells ring sender (with_event taker ticket (Taken ring message))
+
+-- messages leave a ring as they came, in order and none left out
+abbrev pub LeavesInOrder : Type 0 → Type 0
+LeavesInOrder M = (cells ring : ℕ) (sender taker : Trace M) → RingHolds cells ring sender taker → Begins (moved ring taker) (messages (sent ring sender))
+
+-- an event that is no send and no refusal on a ring, or no look and no take there, changes nothing on that side of it
+abbrev pub EventSendsNothing : Type 0 → Type 0
+EventSendsNothing M = (ring ticket : ℕ) (trace : Trace M) (action : Action M) → sends_on ring action ≡ false
+    → SendsNothing ring trace (with_event trace ticket action)
+
+abbrev pub EventTakesNothing : Type 0 → Type 0
+EventTakesNothing M = (ring ticket : ℕ) (trace : Trace M) (action : Action M) → takes_on ring action ≡ false
+    → taken_before_ticket ring trace.pending ≡ [] → TakesNothing ring trace (with_event trace ticket action)
+
+-- what an actor is in the midst of changes nothing on a ring, but for a message that has left it
+abbrev pub PendingSendsNothing : Type 0 → Type 0
+PendingSendsNothing M = (ring : ℕ) (trace : Trace M) (pending : Pending M) → SendsNothing ring trace (with_pending trace pending)
+
+abbrev pub PendingTakesNothing : Type 0 → Type 0
+PendingTakesNothing M = (ring : ℕ) (trace : Trace M) (pending : Pending M) → taken_before_ticket ring pending ≡ taken_before_ticket ring trace.pending
+    → TakesNothing ring trace (with_pending trace pending)
+
+-- an event has the ticket that was pending, or a new one
+abbrev pub EventUsesTicket : Type 0 → Type 0
+EventUsesTicket M = (ticket : ℕ) (trace : Trace M) (action : Action M) → pending_ticket trace.pending ≡ ticket ∷ []
+    → drawn (with_event trace ticket action) ≡ drawn trace
+
+abbrev pub EventDrawsTicket : Type 0 → Type 0
+EventDrawsTicket M = (ticket : ℕ) (trace : Trace M) (action : Action M) → pending_ticket trace.pending ≡ []
+    → drawn (with_event trace ticket action) ≡ drawn trace ++ ticket ∷ []
+
+-- a ticket is drawn first, for what is pending then
+abbrev pub PendingDrawsTicket : Type 0 → Type 0
+PendingDrawsTicket M = (ticket : ℕ) (trace : Trace M) → pending_ticket trace.pending ≡ []
+    → drawn (with_pending trace (Drew ticket)) ≡ drawn trace ++ ticket ∷ []

@@ -1,6 +1,7 @@
 -- How a trace goes on, and what a step leaves as it was.
-use Rattle.std.specs.Prelude.{◌≡◌, ℕ, ◌<◌, [], ◌∷◌, ◌++◌, All}
+use Rattle.std.specs.Prelude.{◌≡◌, ℕ, ◌<◌, Bool, false, ◌==◌, [], ◌∷◌, ◌++◌, All}
 use Rattle.cable_trace.specs.declared.trace.Action.{Action}
+use Rattle.cable_trace.specs.declared.trace.Action.TheVariants.{Sent, Refused, Looked, Taken}
 use Rattle.cable_trace.specs.declared.trace.Pending.{Pending}
 use Rattle.cable_trace.specs.declared.trace.Pending.TheVariants.{Idle}
 use Rattle.cable_trace.specs.declared.trace.Trace.{Trace}
@@ -42,3 +43,14 @@ pub record TakesNothing {M : Type 0} (ring : ℕ) (old new : Trace M) : Type 0 w
   pub shows : shown ring new ≡ shown ring old
   pub takes : taken ring new ≡ taken ring old
   pub moves : moved ring new ≡ moved ring old
+
+-- whether an action sends on a ring or is refused there, and whether it looks at a ring or takes from it
+abbrev pub sends_on : {M : Type 0} → ℕ → Action M → Bool
+sends_on ring (Sent on seen message) = on == ring
+sends_on ring (Refused on seen) = on == ring
+sends_on ring action = false
+
+abbrev pub takes_on : {M : Type 0} → ℕ → Action M → Bool
+takes_on ring (Looked on count messages) = on == ring
+takes_on ring (Taken on message) = on == ring
+takes_on ring action = false

@@ -1,4 +1,5 @@
 ghost use Rattle.cable_trace.specs.Laws.{RingBegins, AboveAll, SenderGoesOn, SenderDraws, SenderIsRefused, SenderSends, TakerGoesOn, TakerDraws, TakerLooks, TakerMoves, TakerTakes};
+ghost use Rattle.cable_trace.specs.Laws.{LeavesInOrder, EventSendsNothing, EventTakesNothing, PendingSendsNothing, PendingTakesNothing, EventUsesTicket, EventDrawsTicket, PendingDrawsTicket};
 
 /// All holds of a ring whose actors have done nothing.
 pub fn ring_begins<M>()
@@ -41,4 +42,24 @@ pub fn taker_looks<M>()
 pub fn taker_takes<M>()
     ensures moves { TakerMoves M }
     ensures ticket { TakerTakes M }
+{}
+
+/// Messages leave a ring in the order in which they were sent, and none is left out.
+pub fn leaves_in_order<M>()
+    ensures { LeavesInOrder M }
+{}
+
+/// What an actor does on one side of a ring leaves the other side and all other rings as they were.
+pub fn leaves_others<M>()
+    ensures event_sends { EventSendsNothing M }
+    ensures event_takes { EventTakesNothing M }
+    ensures pending_sends { PendingSendsNothing M }
+    ensures pending_takes { PendingTakesNothing M }
+{}
+
+/// Which tickets an actor has drawn after a step.
+pub fn draws_in_order<M>()
+    ensures uses { EventUsesTicket M }
+    ensures draws { EventDrawsTicket M }
+    ensures first { PendingDrawsTicket M }
 {}
