@@ -1,5 +1,5 @@
 -- A step leaves the other side of a ring and all other rings as they were.
-use Rattle.std.proofs.Common.{◌≡◌, ℕ, Bool, true, false, ◌==◌, if◌then◌else◌, List, [], ◌∷◌, ◌++◌, refl, sym, ap, ◌∙◌}
+use Rattle.std.proofs.Common.{◌≡◌, ℕ, Bool, false, ◌==◌, if◌then◌else◌, List, [], ◌∷◌, ◌++◌, refl, sym, ap, ◌∙◌}
 use Rattle.std.specs.Prelude.{flat_map}
 use Rattle.std.proofs.lemmas.List.{append-nil}
 use Rattle.cable_trace.specs.declared.trace.Action.{Action}
@@ -7,7 +7,7 @@ use Rattle.cable_trace.specs.declared.trace.Action.TheVariants.{Marked, Sent, Re
 use Rattle.cable_trace.specs.declared.trace.Event.{Event}
 use Rattle.cable_trace.specs.declared.trace.Pending.{Pending}
 use Rattle.cable_trace.specs.declared.trace.Trace.{Trace}
-use Rattle.cable_trace.specs.Trace.{taken_before_ticket, sent_by, sent, refused_by, refused, looked_by, looks, shown_by, shown, taken_by, taken, moved}
+use Rattle.cable_trace.specs.Trace.{taken_before_ticket, sent_by, refused_by, looked_by, shown_by, taken_by, taken}
 use Rattle.cable_trace.specs.Step.{with_pending, with_event, SendsNothing, TakesNothing, sends_on, takes_on}
 use Rattle.cable_trace.specs.Ring.{messages}
 use Rattle.cable_trace.proofs.Tells.{told_more}

@@ -5,3 +5,5 @@ mod Above
 mod SenderKeeps
 mod TakerKeeps
 mod Elsewhere
+mod Counted
+mod MergedKeeps

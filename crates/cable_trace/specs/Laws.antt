@@ -1,5 +1,6 @@
 -- Each step keeps what holds of a ring. The two traces may be one actor's: then a step of it is first the sender's and then the taker's.
-use Rattle.std.specs.Prelude.{◌≡◌, ℕ, ◌+◌, ◌<◌, false, [], ◌∷◌, ◌++◌, length}
+use Rattle.std.specs.Prelude.{◌≡◌, ℕ, ◌+◌, ◌<◌, false, List, [], ◌∷◌, ◌++◌, length}
+use Rattle.step_law.specs.declared.entry.Entry.{Entry}
 use Rattle.cable_trace.specs.declared.trace.Action.{Action}
 use Rattle.cable_trace.specs.declared.trace.Action.TheVariants.{Sent, Refused, Looked, Taken}
 use Rattle.cable_trace.specs.declared.trace.Pending.{Pending}
@@ -7,6 +8,7 @@ use Rattle.cable_trace.specs.declared.trace.Pending.TheVariants.{Drew, Putting, 
 use Rattle.cable_trace.specs.declared.trace.Trace.{Trace}
 use Rattle.cable_trace.specs.Trace.{pending_ticket, taken_before_ticket, drawn, sent, shown, moved}
 use Rattle.cable_trace.specs.Step.{fresh, with_pending, with_event, IsAbove, IsAboveSends, IsAboveTakes, SendsNothing, TakesNothing, sends_on, takes_on}
+use Rattle.cable_trace.specs.Merged.{IsMerged, KeepsRing}
 use Rattle.cable_trace.specs.Ring.{Begins, messages, RingHolds}
 
 -- nothing has been done yet
@@ -100,3 +102,8 @@ EventDrawsTicket M = (ticket : ℕ) (trace : Trace M) (action : Action M) → pe
 abbrev pub PendingDrawsTicket : Type 0 → Type 0
 PendingDrawsTicket M = (ticket : ℕ) (trace : Trace M) → pending_ticket trace.pending ≡ []
     → drawn (with_pending trace (Drew ticket)) ≡ drawn trace ++ ticket ∷ []
+
+-- a list of entries that is merged by tickets from what a ring's actors did keeps the ring's rules
+abbrev pub MergedKeepsRing : Type 0 → Type 0
+MergedKeepsRing M = (cells ring source target : ℕ) (sender taker : Trace M) (marks : List (ℕ × Entry)) → RingHolds cells ring sender taker
+    → IsMerged ring source target sender taker marks → KeepsRing cells ring source target marks

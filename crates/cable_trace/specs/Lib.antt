@@ -2,4 +2,5 @@ pub mod Trace
 pub mod Step
 pub mod Order
 pub mod Ring
+pub mod Merged
 pub mod Laws

@@ -1,5 +1,6 @@
 ghost use Rattle.cable_trace.specs.Laws.{RingBegins, AboveAll, SenderGoesOn, SenderDraws, SenderIsRefused, SenderSends, TakerGoesOn, TakerDraws, TakerLooks, TakerMoves, TakerTakes};
 ghost use Rattle.cable_trace.specs.Laws.{LeavesInOrder, EventSendsNothing, EventTakesNothing, PendingSendsNothing, PendingTakesNothing, EventUsesTicket, EventDrawsTicket, PendingDrawsTicket};
+ghost use Rattle.cable_trace.specs.Laws.{MergedKeepsRing};
 
 /// All holds of a ring whose actors have done nothing.
 pub fn ring_begins<M>()
@@ -62,4 +63,9 @@ pub fn draws_in_order<M>()
     ensures uses { EventUsesTicket M }
     ensures draws { EventDrawsTicket M }
     ensures first { PendingDrawsTicket M }
+{}
+
+/// The list of all entries by ticket keeps the rules of a ring and of the looks at it.
+pub fn merged_keeps_ring<M>()
+    ensures { MergedKeepsRing M }
 {}
