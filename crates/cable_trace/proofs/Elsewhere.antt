@@ -3,7 +3,7 @@ use Rattle.std.proofs.Common.{◌≡◌, ℕ, Bool, false, ◌==◌, if◌then�
 use Rattle.std.specs.Prelude.{flat_map}
 use Rattle.std.proofs.lemmas.List.{append-nil}
 use Rattle.cable_trace.specs.declared.trace.Action.{Action}
-use Rattle.cable_trace.specs.declared.trace.Action.TheVariants.{Marked, Sent, Refused, Looked, Taken}
+use Rattle.cable_trace.specs.declared.trace.Action.TheVariants.{Marked, Sent, Refused, Looked, Taken, Stored, Loaded}
 use Rattle.cable_trace.specs.declared.trace.Event.{Event}
 use Rattle.cable_trace.specs.declared.trace.Pending.{Pending}
 use Rattle.cable_trace.specs.declared.trace.Trace.{Trace}
@@ -17,13 +17,15 @@ other : {X : Type 0} (b : Bool) (here there : X) → b ≡ false → (if b then 
 other b here there e = ap (λ x. if x then here else there) e
 
 -- an event that tells nothing leaves what all tell
-told_same : {X Y : Type 0} (tells : X → List Y) (events : List X) (event : X) → tells event ≡ [] → flat_map tells (events ++ event ∷ []) ≡ flat_map tells events
+pub told_same : {X Y : Type 0} (tells : X → List Y) (events : List X) (event : X) → tells event ≡ [] → flat_map tells (events ++ event ∷ []) ≡ flat_map tells events
 told_same tells events event e = told_more tells events event ∙ ap (λ l. flat_map tells events ++ l) e ∙ append-nil (flat_map tells events)
 
 module _ {M : Type 0} (ring ticket : ℕ) where
   no_sent : (action : Action M) → sends_on ring action ≡ false → sent_by ring ticket action ≡ []
   no_sent (Sent on seen message) e = other (on == ring) ((ticket, message) ∷ []) [] e
   no_sent Marked e = refl
+  no_sent (Stored number) e = refl
+  no_sent (Loaded number) e = refl
   no_sent (Refused on seen) e = refl
   no_sent (Looked on count messages) e = refl
   no_sent (Taken on message) e = refl
@@ -31,6 +33,8 @@ module _ {M : Type 0} (ring ticket : ℕ) where
   no_refused : (action : Action M) → sends_on ring action ≡ false → refused_by ring ticket action ≡ []
   no_refused (Refused on seen) e = other (on == ring) ((ticket, seen) ∷ []) [] e
   no_refused Marked e = refl
+  no_refused (Stored number) e = refl
+  no_refused (Loaded number) e = refl
   no_refused (Sent on seen message) e = refl
   no_refused (Looked on count messages) e = refl
   no_refused (Taken on message) e = refl
@@ -38,6 +42,8 @@ module _ {M : Type 0} (ring ticket : ℕ) where
   no_looked : (action : Action M) → takes_on ring action ≡ false → looked_by ring ticket action ≡ []
   no_looked (Looked on count messages) e = other (on == ring) ((ticket, count) ∷ []) [] e
   no_looked Marked e = refl
+  no_looked (Stored number) e = refl
+  no_looked (Loaded number) e = refl
   no_looked (Sent on seen message) e = refl
   no_looked (Refused on seen) e = refl
   no_looked (Taken on message) e = refl
@@ -45,6 +51,8 @@ module _ {M : Type 0} (ring ticket : ℕ) where
   no_shown : (action : Action M) → takes_on ring action ≡ false → shown_by ring action ≡ []
   no_shown (Looked on count messages) e = other (on == ring) messages [] e
   no_shown Marked e = refl
+  no_shown (Stored number) e = refl
+  no_shown (Loaded number) e = refl
   no_shown (Sent on seen message) e = refl
   no_shown (Refused on seen) e = refl
   no_shown (Taken on message) e = refl
@@ -52,6 +60,8 @@ module _ {M : Type 0} (ring ticket : ℕ) where
   no_taken : (action : Action M) → takes_on ring action ≡ false → taken_by ring ticket action ≡ []
   no_taken (Taken on message) e = other (on == ring) ((ticket, message) ∷ []) [] e
   no_taken Marked e = refl
+  no_taken (Stored number) e = refl
+  no_taken (Loaded number) e = refl
   no_taken (Sent on seen message) e = refl
   no_taken (Refused on seen) e = refl
   no_taken (Looked on count messages) e = refl

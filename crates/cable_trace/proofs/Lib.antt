@@ -7,3 +7,4 @@ mod TakerKeeps
 mod Elsewhere
 mod Counted
 mod MergedKeeps
+mod BeatKeeps

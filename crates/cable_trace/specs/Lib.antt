@@ -4,3 +4,5 @@ pub mod Order
 pub mod Ring
 pub mod Merged
 pub mod Laws
+pub mod Beat
+pub mod BeatLaws

@@ -2,9 +2,14 @@
 //! No thread stands here.
 #![tactic(auto)]
 
+mod beat_laws;
 mod laws;
 mod trace;
 
+pub use beat_laws::{
+    beat_begins, beat_is_above, leaves_beat, reader_goes_on, reader_loads, writer_goes_on,
+    writer_stores,
+};
 pub use laws::{
     above_all, draws_in_order, leaves_in_order, leaves_others, merged_keeps_ring, ring_begins,
     sender_goes_on, sender_is_refused, sender_sends, taker_goes_on, taker_looks, taker_takes,

@@ -12,6 +12,10 @@ pub enum Action<M> {
     Looked(u64, u64, LinkedList<M>),
     /// It took a message from this ring.
     Taken(u64, M),
+    /// It stored this number as the beat.
+    Stored(u64),
+    /// It loaded this number from the beat.
+    Loaded(u64),
 }
 
 /// A finished step, with the ticket that puts it into the order of all steps of all actors.
