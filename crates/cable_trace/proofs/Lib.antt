@@ -8,3 +8,4 @@ mod Elsewhere
 mod Counted
 mod MergedKeeps
 mod BeatKeeps
+mod MergedBeatKeeps

@@ -1,5 +1,6 @@
 -- Each step keeps what holds of the beat.
-use Rattle.std.specs.Prelude.{◌≡◌, ℕ, ◌<◌, [], ◌∷◌, ◌++◌, All}
+use Rattle.std.specs.Prelude.{◌≡◌, ℕ, ◌<◌, List, [], ◌∷◌, ◌++◌, All}
+use Rattle.step_law.specs.declared.entry.Entry.{Entry}
 use Rattle.cable_trace.specs.declared.trace.Action.{Action}
 use Rattle.cable_trace.specs.declared.trace.Action.TheVariants.{Stored, Loaded}
 use Rattle.cable_trace.specs.declared.trace.Pending.TheVariants.{Drew}
@@ -7,6 +8,7 @@ use Rattle.cable_trace.specs.declared.trace.Trace.{Trace}
 use Rattle.cable_trace.specs.Trace.{drawn}
 use Rattle.cable_trace.specs.Step.{fresh, with_event, IsAbove}
 use Rattle.cable_trace.specs.Beat.{stored_by, loaded_by, stores, loads, IsLast, BeatHolds}
+use Rattle.cable_trace.specs.MergedBeat.{IsMergedBeat, KeepsBeat}
 
 -- nothing has been done yet, and the beat is 0
 abbrev pub BeatBegins : Type 0 → Type 0
@@ -50,3 +52,8 @@ ReaderDraws M = (ticket : ℕ) (writer reader new : Trace M) → BeatHolds write
 abbrev pub ReaderLoads : Type 0 → Type 0
 ReaderLoads M = (ticket number : ℕ) (writer reader : Trace M) → BeatHolds writer reader → reader.pending ≡ Drew ticket → IsAbove ticket reader
     → IsLast number (stores writer) → BeatHolds writer (with_event reader ticket (Loaded number))
+
+-- a list of entries that is merged by tickets from what the beat's actors did keeps the beat's rules
+abbrev pub MergedKeepsBeat : Type 0 → Type 0
+MergedKeepsBeat M = (blocks source target : ℕ) (writer reader : Trace M) (marks : List (ℕ × Entry)) → BeatHolds writer reader
+    → IsMergedBeat blocks source target writer reader marks → KeepsBeat blocks source target marks

@@ -5,4 +5,5 @@ pub mod Ring
 pub mod Merged
 pub mod Laws
 pub mod Beat
+pub mod MergedBeat
 pub mod BeatLaws

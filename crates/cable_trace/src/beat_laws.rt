@@ -1,5 +1,5 @@
 ghost use Rattle.cable_trace.specs.BeatLaws.{BeatBegins, AboveBeat, WriterGoesOn, WriterDraws, WriterStores, ReaderGoesOn, ReaderDraws, ReaderLoads};
-ghost use Rattle.cable_trace.specs.BeatLaws.{EventStoresNothing, EventLoadsNothing};
+ghost use Rattle.cable_trace.specs.BeatLaws.{EventStoresNothing, EventLoadsNothing, MergedKeepsBeat};
 
 /// All holds of the beat where nothing has been done: it is 0.
 pub fn beat_begins<M>()
@@ -37,4 +37,9 @@ pub fn reader_goes_on<M>()
 /// A load of the last number keeps what holds of the beat.
 pub fn reader_loads<M>()
     ensures { ReaderLoads M }
+{}
+
+/// The list of all entries by ticket keeps the rules of the beat.
+pub fn merged_keeps_beat<M>()
+    ensures { MergedKeepsBeat M }
 {}

@@ -7,8 +7,8 @@ mod laws;
 mod trace;
 
 pub use beat_laws::{
-    beat_begins, beat_is_above, leaves_beat, reader_goes_on, reader_loads, writer_goes_on,
-    writer_stores,
+    beat_begins, beat_is_above, leaves_beat, merged_keeps_beat, reader_goes_on, reader_loads,
+    writer_goes_on, writer_stores,
 };
 pub use laws::{
     above_all, draws_in_order, leaves_in_order, leaves_others, merged_keeps_ring, ring_begins,
