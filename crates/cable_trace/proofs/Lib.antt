@@ -9,3 +9,5 @@ mod Counted
 mod MergedKeeps
 mod BeatKeeps
 mod MergedBeatKeeps
+mod Filtered
+mod MergeOfLogs

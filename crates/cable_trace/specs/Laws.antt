@@ -8,6 +8,7 @@ use Rattle.cable_trace.specs.declared.trace.Pending.TheVariants.{Drew, Putting, 
 use Rattle.cable_trace.specs.declared.trace.Trace.{Trace}
 use Rattle.cable_trace.specs.Trace.{pending_ticket, taken_before_ticket, drawn, sent, shown, moved}
 use Rattle.cable_trace.specs.Step.{fresh, with_pending, with_event, IsAbove, IsAboveSends, IsAboveTakes, SendsNothing, TakesNothing, sends_on, takes_on}
+use Rattle.cable_trace.specs.Logs.{IsLogOf, IsRingOf, IsMergeOf}
 use Rattle.cable_trace.specs.Merged.{IsMerged, KeepsRing}
 use Rattle.cable_trace.specs.Ring.{Begins, messages, RingHolds}
 
@@ -107,3 +108,8 @@ PendingDrawsTicket M = (ticket : ℕ) (trace : Trace M) → pending_ticket trace
 abbrev pub MergedKeepsRing : Type 0 → Type 0
 MergedKeepsRing M = (cells ring source target : ℕ) (sender taker : Trace M) (marks : List (ℕ × Entry)) → RingHolds cells ring sender taker
     → IsMerged ring source target sender taker marks → KeepsRing cells ring source target marks
+
+-- the merge of logs that agree with the actors' traces agrees with those of each ring's two actors
+abbrev pub LogsMerge : Type 0 → Type 0
+LogsMerge M = (ring source target : ℕ) (traces : ℕ → Trace M) (logs : ℕ → List (ℕ × Entry)) (marks : List (ℕ × Entry)) → IsRingOf ring source target traces
+    → ((actor : ℕ) → IsLogOf ring (traces actor) (logs actor)) → IsMergeOf logs marks → IsMerged ring source target (traces source) (traces target) marks

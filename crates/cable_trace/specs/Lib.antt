@@ -3,6 +3,7 @@ pub mod Step
 pub mod Order
 pub mod Ring
 pub mod Merged
+pub mod Logs
 pub mod Laws
 pub mod Beat
 pub mod MergedBeat

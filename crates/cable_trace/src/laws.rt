@@ -1,6 +1,6 @@
 ghost use Rattle.cable_trace.specs.Laws.{RingBegins, AboveAll, SenderGoesOn, SenderDraws, SenderIsRefused, SenderSends, TakerGoesOn, TakerDraws, TakerLooks, TakerMoves, TakerTakes};
 ghost use Rattle.cable_trace.specs.Laws.{LeavesInOrder, EventSendsNothing, EventTakesNothing, PendingSendsNothing, PendingTakesNothing, EventUsesTicket, EventDrawsTicket, PendingDrawsTicket};
-ghost use Rattle.cable_trace.specs.Laws.{MergedKeepsRing};
+ghost use Rattle.cable_trace.specs.Laws.{LogsMerge, MergedKeepsRing};
 
 /// All holds of a ring whose actors have done nothing.
 pub fn ring_begins<M>()
@@ -65,7 +65,8 @@ pub fn draws_in_order<M>()
     ensures first { PendingDrawsTicket M }
 {}
 
-/// The list of all entries by ticket keeps the rules of a ring and of the looks at it.
+/// The list of all entries by ticket keeps the rules of a ring and of the looks at it, where each log agrees with its actor's trace.
 pub fn merged_keeps_ring<M>()
-    ensures { MergedKeepsRing M }
+    ensures logs { LogsMerge M }
+    ensures rules { MergedKeepsRing M }
 {}
