@@ -11,3 +11,4 @@ mod BeatKeeps
 mod MergedBeatKeeps
 mod Filtered
 mod MergeOfLogs
+mod LogGrows

@@ -69,3 +69,14 @@ module _ {M : Type 0} where
   pub drawn_first : (trace : Trace M) (ticket : ℕ) → pending_ticket trace.pending ≡ [] → drawn (with_pending trace (Drew ticket)) ≡ drawn trace ++ ticket ∷ []
   drawn_first trace ticket e =
       ap (λ l. l ++ ticket ∷ []) (sym (append-nil (map (λ event. event.ticket) trace.events)) ∙ ap (λ l. map (λ event. event.ticket) trace.events ++ l) (sym e))
+
+  -- with none pending all tickets are those of events
+  pub drawn-lower : (trace : Trace M) (ticket : ℕ) → pending_ticket trace.pending ≡ [] → IsAbove ticket trace → All (λ t. t < ticket) (drawn trace)
+  drawn-lower trace ticket e above =
+      subst (λ l. All (λ t. t < ticket) (map (λ event. event.ticket) trace.events ++ l)) (sym e)
+      (All-append (λ t. t < ticket) (map (λ event. event.ticket) trace.events) [] (each trace.events above) (All-nil (λ t. t < ticket)))
+    where
+      each : (events : List (Event M)) → All (λ event. event.ticket < ticket) events → All (λ t. t < ticket) (map (λ event. event.ticket) events)
+      each [] h = All-nil (λ t. t < ticket)
+      each (event ∷ events) h =
+          All-cons (λ t. t < ticket) event.ticket (map (λ x. x.ticket) events) (All-head (λ x. x.ticket < ticket) event events h) (each events (All-tail (λ x. x.ticket < ticket) event events h))

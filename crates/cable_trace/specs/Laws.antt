@@ -6,9 +6,9 @@ use Rattle.cable_trace.specs.declared.trace.Action.TheVariants.{Sent, Refused, L
 use Rattle.cable_trace.specs.declared.trace.Pending.{Pending}
 use Rattle.cable_trace.specs.declared.trace.Pending.TheVariants.{Drew, Putting, Fetching, Took}
 use Rattle.cable_trace.specs.declared.trace.Trace.{Trace}
-use Rattle.cable_trace.specs.Trace.{pending_ticket, taken_before_ticket, drawn, sent, shown, moved}
+use Rattle.cable_trace.specs.Trace.{pending_ticket, taken_before_ticket, drawn, sent, shown, moved, refused, looks, taken}
 use Rattle.cable_trace.specs.Step.{fresh, with_pending, with_event, IsAbove, IsAboveSends, IsAboveTakes, SendsNothing, TakesNothing, sends_on, takes_on}
-use Rattle.cable_trace.specs.Logs.{IsLogOf, IsRingOf, IsMergeOf}
+use Rattle.cable_trace.specs.Logs.{IsLogOf, Tells, IsRingOf, IsMergeOf}
 use Rattle.cable_trace.specs.Merged.{IsMerged, KeepsRing}
 use Rattle.cable_trace.specs.Ring.{Begins, messages, RingHolds}
 
@@ -113,3 +113,22 @@ MergedKeepsRing M = (cells ring source target : ℕ) (sender taker : Trace M) (m
 abbrev pub LogsMerge : Type 0 → Type 0
 LogsMerge M = (ring source target : ℕ) (traces : ℕ → Trace M) (logs : ℕ → List (ℕ × Entry)) (marks : List (ℕ × Entry)) → IsRingOf ring source target traces
     → ((actor : ℕ) → IsLogOf ring (traces actor) (logs actor)) → IsMergeOf logs marks → IsMerged ring source target (traces source) (traces target) marks
+
+-- a log agrees with a trace at the start
+abbrev pub LogBegins : Type 0 → Type 0
+LogBegins M = (ring : ℕ) → IsLogOf {M = M} ring fresh []
+
+-- a step without an entry may draw a ticket, be refused or look, and neither sends nor gives a take its ticket
+abbrev pub LogStays : Type 0 → Type 0
+LogStays M = (ring : ℕ) (trace new : Trace M) (log : List (ℕ × Entry)) → IsLogOf ring trace log → Begins (drawn trace) (drawn new)
+    → sent ring new ≡ sent ring trace → taken ring new ≡ taken ring trace → Begins (refused ring trace) (refused ring new)
+    → Begins (looks ring trace) (looks ring new) → IsLogOf ring new log
+
+-- and after each event with the entry that tells of it, whose ticket was pending or is new
+abbrev pub LogUsesTicket : Type 0 → Type 0
+LogUsesTicket M = (ring ticket : ℕ) (trace : Trace M) (action : Action M) (entry : Entry) (log : List (ℕ × Entry)) → IsLogOf ring trace log → IsAbove ticket trace
+    → Tells trace action entry → pending_ticket trace.pending ≡ ticket ∷ [] → IsLogOf ring (with_event trace ticket action) (log ++ (ticket, entry) ∷ [])
+
+abbrev pub LogDrawsTicket : Type 0 → Type 0
+LogDrawsTicket M = (ring ticket : ℕ) (trace : Trace M) (action : Action M) (entry : Entry) (log : List (ℕ × Entry)) → IsLogOf ring trace log → IsAbove ticket trace
+    → Tells trace action entry → pending_ticket trace.pending ≡ [] → IsLogOf ring (with_event trace ticket action) (log ++ (ticket, entry) ∷ [])

@@ -1,6 +1,6 @@
 ghost use Rattle.cable_trace.specs.Laws.{RingBegins, AboveAll, SenderGoesOn, SenderDraws, SenderIsRefused, SenderSends, TakerGoesOn, TakerDraws, TakerLooks, TakerMoves, TakerTakes};
 ghost use Rattle.cable_trace.specs.Laws.{LeavesInOrder, EventSendsNothing, EventTakesNothing, PendingSendsNothing, PendingTakesNothing, EventUsesTicket, EventDrawsTicket, PendingDrawsTicket};
-ghost use Rattle.cable_trace.specs.Laws.{LogsMerge, MergedKeepsRing};
+ghost use Rattle.cable_trace.specs.Laws.{LogBegins, LogStays, LogUsesTicket, LogDrawsTicket, LogsMerge, MergedKeepsRing};
 
 /// All holds of a ring whose actors have done nothing.
 pub fn ring_begins<M>()
@@ -69,4 +69,12 @@ pub fn draws_in_order<M>()
 pub fn merged_keeps_ring<M>()
     ensures logs { LogsMerge M }
     ensures rules { MergedKeepsRing M }
+{}
+
+/// A log agrees with its actor's trace, where each entry tells of the event that it is put for.
+pub fn log_agrees<M>()
+    ensures begins { LogBegins M }
+    ensures stays { LogStays M }
+    ensures uses { LogUsesTicket M }
+    ensures draws { LogDrawsTicket M }
 {}

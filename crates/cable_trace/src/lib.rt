@@ -11,7 +11,8 @@ pub use beat_laws::{
     writer_goes_on, writer_stores,
 };
 pub use laws::{
-    above_all, draws_in_order, leaves_in_order, leaves_others, merged_keeps_ring, ring_begins,
-    sender_goes_on, sender_is_refused, sender_sends, taker_goes_on, taker_looks, taker_takes,
+    above_all, draws_in_order, leaves_in_order, leaves_others, log_agrees, merged_keeps_ring,
+    ring_begins, sender_goes_on, sender_is_refused, sender_sends, taker_goes_on, taker_looks,
+    taker_takes,
 };
 pub use trace::{Action, Event, Pending, Trace};
