@@ -1,0 +1,14 @@
+mod Below
+mod Orders
+mod Tells
+mod Above
+mod SenderKeeps
+mod TakerKeeps
+mod Elsewhere
+mod Counted
+mod MergedKeeps
+mod BeatKeeps
+mod MergedBeatKeeps
+mod Filtered
+mod MergeOfLogs
+mod LogGrows

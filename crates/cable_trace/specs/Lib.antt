@@ -1,0 +1,10 @@
+pub mod Trace
+pub mod Step
+pub mod Order
+pub mod Ring
+pub mod Merged
+pub mod Logs
+pub mod Laws
+pub mod Beat
+pub mod MergedBeat
+pub mod BeatLaws
