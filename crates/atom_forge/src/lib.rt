@@ -1,0 +1,11 @@
+//! Atoms of LV2, written one after the other into a buffer of fixed room.
+#![tactic(auto)]
+
+mod forge;
+mod level;
+mod piece;
+mod room;
+
+pub use forge::Forge;
+pub use level::{Holds, Level};
+pub use room::NoRoom;
