@@ -3,7 +3,7 @@ use Rattle.std.proofs.Common.{◌≡◌, ℕ, ◌+◌, ◌-◌, ◌≤◌, Bool,
 use Rattle.atom_forge.specs.declared.level.Level.{Level}
 use Rattle.atom_core.specs.Spelling.{u32}
 use Rattle.atom_forge.specs.Forged.{Forged, begins, sized, closed}
-use Rattle.atom_forge.specs.Inside.{HaveHeaders}
+use Rattle.atom_forge.specs.Forged.{HaveHeaders}
 
 pub begins-last : (levels : List Level) (l : Level) → begins (levels ++ l ∷ []) ≡ l.at
 begins-last [] l = refl

@@ -1,9 +1,11 @@
 -- What a forge holds, and what its calls make of it.
 use Rattle.std.specs.Prelude.{◌≡◌, ℕ, ◌+◌, ◌-◌, ◌<◌, ◌≤◌, ◌==◌, MatchBool, if◌then◌else◌, Bool, true, false, List, [], ◌∷◌, ◌++◌, length, take, drop, Option, Some, None, Result, MatchResult}
+use Rattle.std.specs.List.{All}
 use Rattle.atom_core.specs.Value.{Value}
 use Rattle.atom_core.specs.Spelling.{u32, framed, with_padding, kind_of, body_of}
 use Rattle.atom_forge.specs.declared.level.Holds.{Holds}
 use Rattle.atom_forge.specs.declared.level.Level.{Level}
+use Rattle.atom_forge.specs.declared.mark.Mark.{Mark}
 use Rattle.atom_forge.specs.declared.room.NoRoom.{NoRoom}
 
 -- how many bytes there may be, those that are finished, the containers that are open, outermost first, and whether a key or an event waits
@@ -72,6 +74,18 @@ closed forge = record {
   levels = take (length forge.levels - 1) forge.levels;
   waits = false;
 }
+
+-- the header of each of these containers is finished
+abbrev pub HaveHeaders : ℕ → List Level → Type 0
+HaveHeaders bytes levels = All (λ l. l.at + 8 ≤ bytes) levels
+
+-- a forge can hold this
+abbrev pub IsForged : Forged → Type 0
+IsForged forge = HaveHeaders (length forge.bytes) forge.levels
+
+-- what a forge held where its mark is
+abbrev pub up_to : Mark → Forged → Forged
+up_to mark forge = record { room = forge.room; bytes = take mark.len forge.bytes; levels = take mark.levels forge.levels; waits = mark.waits }
 
 -- a call puts a piece, if there is room for it, and else changes nothing
 abbrev pub Puts : Forged → List ℕ → Forged → Result (Unit {0}) NoRoom → Forged → Type 0

@@ -4,9 +4,10 @@ ghost use Rattle.atom_core.specs.Value.{int, long, fixed, urid, string, plain, k
 ghost use Rattle.atom_core.specs.Spelling.{lead_bytes, framed};
 ghost use Rattle.atom_core.specs.Fits.{IsText};
 ghost use Rattle.atom_forge.specs.declared.level.Holds.TheVariants.{Properties, Events};
-ghost use Rattle.atom_forge.specs.Forged.{TakesAtom, TakesLead, IsComplete, laid, opening, with_piece, with_container, closed, Puts, PutsBody, PutsAtom};
+ghost use Rattle.atom_forge.specs.Forged.{TakesAtom, TakesLead, IsComplete, laid, opening, with_piece, with_container, closed, up_to, IsForged, Puts, PutsBody, PutsAtom};
 
 use crate::level::{Holds, Level};
+use crate::mark::Mark;
 use crate::piece::{padded, put, put_atom, put_number, put_zeros, set_number};
 use crate::room::NoRoom;
 use lv_base::{Fixed, NoMemory};
@@ -227,5 +228,30 @@ impl Forge {
             let size = self.bytes.len() - level.at - 8;
             set_number(&mut self.bytes, level.at, size as u32);
         }
+    }
+
+    /// How far the forge has come.
+    pub fn mark(&self) -> Mark
+        ensures len { result.len ≡ length self.now.bytes }
+        ensures levels { result.levels ≡ length self.now.levels }
+        ensures waits { result.waits ≡ self.now.waits }
+        ensures here { up_to result self.now ≡ self.now }
+        ensures forged { IsForged self.now }
+    {
+        Mark {
+            len: self.bytes.len(),
+            levels: self.levels.len(),
+            waits: self.waits,
+        }
+    }
+
+    /// Takes back what was written since the mark. No container that was open then may be closed since.
+    pub fn back(&mut self, mark: Mark)
+        requires { IsForged (up_to mark self.old) }
+        ensures { self.new ≡ up_to mark self.old }
+    {
+        self.bytes.truncate(mark.len);
+        self.levels.truncate(mark.levels);
+        self.waits = mark.waits;
     }
 }

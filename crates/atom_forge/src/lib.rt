@@ -3,9 +3,11 @@
 
 mod forge;
 mod level;
+mod mark;
 mod piece;
 mod room;
 
 pub use forge::Forge;
 pub use level::{Holds, Level};
+pub use mark::Mark;
 pub use room::NoRoom;
