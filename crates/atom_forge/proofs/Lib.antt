@@ -1,2 +1,3 @@
-mod Levels
-mod Pieces
+pub mod Levels
+pub mod Pieces
+pub mod Containers

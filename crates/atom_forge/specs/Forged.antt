@@ -2,6 +2,7 @@
 use Rattle.std.specs.Prelude.{◌≡◌, ℕ, ◌+◌, ◌-◌, ◌<◌, ◌≤◌, ◌==◌, MatchBool, if◌then◌else◌, Bool, true, false, List, [], ◌∷◌, ◌++◌, length, take, drop, Option, Some, None, Result, MatchResult}
 use Rattle.std.specs.List.{All}
 use Rattle.atom_core.specs.Value.{Value}
+use Rattle.atom_core.specs.Fits.{Fits}
 use Rattle.atom_core.specs.Spelling.{u32, framed, with_padding, kind_of, body_of}
 use Rattle.atom_forge.specs.declared.level.Holds.{Holds}
 use Rattle.atom_forge.specs.declared.level.Level.{Level}
@@ -86,6 +87,10 @@ IsForged forge = HaveHeaders (length forge.bytes) forge.levels
 -- what a forge held where its mark is
 abbrev pub up_to : Mark → Forged → Forged
 up_to mark forge = record { room = forge.room; bytes = take mark.len forge.bytes; levels = take mark.levels forge.levels; waits = mark.waits }
+
+-- this is the body of a value of this type, with no more than n containers within each other
+abbrev pub IsBodyOf : ℕ → ℕ → List ℕ → Type 0
+IsBodyOf n kind body = ∥ ((value : Value) × (kind_of value ≡ kind) × (body_of value ≡ body) × Fits n value) ∥₁
 
 -- a call puts a piece, if there is room for it, and else changes nothing
 abbrev pub Puts : Forged → List ℕ → Forged → Result (Unit {0}) NoRoom → Forged → Type 0

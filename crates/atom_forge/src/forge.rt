@@ -1,15 +1,16 @@
-ghost use Rattle.std.specs.Prelude.{◌≡◌, ◌≤◌, ◌<◌, ◌^◌, ◌++◌, ◌∷◌, [], Some, true, false, length, take, IfOk};
-ghost use Rattle.std.specs.Prelude.{vec_len, IsUtf8, IsTrue};
+ghost use Rattle.std.specs.Prelude.{◌≡◌, ◌-◌, ◌++◌, [], false, true, length, IfOk};
 ghost use Rattle.atom_core.specs.Value.{int, long, fixed, urid, string, plain, keyed, timed, object, sequence};
-ghost use Rattle.atom_core.specs.Spelling.{lead_bytes, framed};
+ghost use Rattle.atom_core.specs.Spelling.{lead_bytes};
 ghost use Rattle.atom_core.specs.Fits.{IsText};
+ghost use Rattle.atom_core.specs.Answer.{IsAtom, most_containers};
 ghost use Rattle.atom_forge.specs.declared.level.Holds.TheVariants.{Properties, Events};
-ghost use Rattle.atom_forge.specs.Forged.{TakesAtom, TakesLead, IsComplete, laid, opening, with_piece, with_container, closed, up_to, IsForged, Puts, PutsBody, PutsAtom};
+ghost use Rattle.atom_forge.specs.Forged.{TakesAtom, TakesLead, IsComplete, opening, with_piece, with_container, closed, up_to, IsForged, IsBodyOf, Puts, PutsBody, PutsAtom};
 
 use crate::level::{Holds, Level};
 use crate::mark::Mark;
 use crate::piece::{padded, put, put_atom, put_number, put_zeros, set_number};
 use crate::room::NoRoom;
+use atom_core::AtomView;
 use lv_base::{Fixed, NoMemory};
 use std::alloc::Global;
 use std::marker::Model;
@@ -84,6 +85,15 @@ impl Forge {
         self.bytes.as_slice()
     }
 
+    /// The atom that is finished.
+    pub fn view(&self) -> AtomView<'_>
+        requires whole { self.now.levels ≡ [] }
+        requires atom { ∥ IsAtom self.now.bytes ∥₁ }
+        ensures { result.bytes.now ≡ self.now.bytes }
+    {
+        AtomView::over(self.bytes.as_slice())
+    }
+
     /// Writes an atom whose body is in two pieces.
     fn atom(&mut self, kind: u32, body: &[u8], rest: &[u8]) -> Result<(), NoRoom>
         requires { TakesAtom self.old }
@@ -151,6 +161,15 @@ impl Forge {
         ensures { PutsAtom self.old (plain (string v.now)) result self.new }
     {
         self.atom(STRING, v, &[0])
+    }
+
+    /// Writes an atom of any type: the one of some value, by its type and its body.
+    pub fn raw(&mut self, kind: u32, body: &[u8]) -> Result<(), NoRoom>
+        requires takes { TakesAtom self.old }
+        requires body { IsBodyOf (most_containers - length self.old.levels) kind body.now }
+        ensures { PutsBody self.old kind body.now result self.new }
+    {
+        self.atom(kind, &[], body)
     }
 
     /// Opens a container, with two numbers before its parts.

@@ -2,12 +2,14 @@
 #![tactic(auto)]
 
 mod forge;
+mod laws;
 mod level;
 mod mark;
 mod piece;
 mod room;
 
 pub use forge::Forge;
+pub use laws::{back_is_before, container_is_atom};
 pub use level::{Holds, Level};
 pub use mark::Mark;
 pub use room::NoRoom;

@@ -3,8 +3,8 @@ use atom_forge::{Forge, NoRoom};
 use lv_base::Fixed;
 use std::test::Fail;
 
-/// Opens a sequence, and in it at frame 0 a patch:Set of property 26.
-fn begin(forge: &mut Forge) -> Result<(), NoRoom> {
+/// A sequence of one event at frame 0, a patch:Set of property 26 to a Fixed of 0.25.
+fn write_set(forge: &mut Forge) -> Result<(), NoRoom> {
     forge.clear();
     forge.sequence()?;
     forge.event(0)?;
@@ -21,7 +21,7 @@ fn begin(forge: &mut Forge) -> Result<(), NoRoom> {
 #[test]
 fn a_set_in_a_sequence(rt: HostRuntime) -> Result<(), Fail> {
     let mut forge = Forge::with_room(rt.alloc(), 88)?;
-    assert_eq!(rt; begin(&mut forge), Ok(()));
+    assert_eq!(rt; write_set(&mut forge), Ok(()));
     assert!(rt; forge.done() == ROW.as_slice());
     Ok(())
 }
@@ -29,7 +29,26 @@ fn a_set_in_a_sequence(rt: HostRuntime) -> Result<(), Fail> {
 #[test]
 fn no_room_for_the_last_atom(rt: HostRuntime) -> Result<(), Fail> {
     let mut forge = Forge::with_room(rt.alloc(), 87)?;
-    assert_eq!(rt; begin(&mut forge), Err(NoRoom));
+    assert_eq!(rt; write_set(&mut forge), Err(NoRoom));
     assert_eq!(rt; forge.done().len(), 72);
+    Ok(())
+}
+
+#[test]
+fn outer_numbers(rt: HostRuntime) -> Result<(), Fail> {
+    let mut forge = Forge::with_room(rt.alloc(), 16)?;
+    assert_eq!(rt; forge.int(-2), Ok(()));
+    assert!(rt; forge.done() == [4, 0, 0, 0, 1, 0, 0, 0, 254, 255, 255, 255].as_slice());
+    forge.clear();
+    assert_eq!(rt; forge.long(1 << 32), Ok(()));
+    assert_eq!(rt; forge.done().len(), 16);
+    Ok(())
+}
+
+#[test]
+fn an_outer_string(rt: HostRuntime) -> Result<(), Fail> {
+    let mut forge = Forge::with_room(rt.alloc(), 11)?;
+    assert_eq!(rt; forge.string("hi".as_bytes()), Ok(()));
+    assert!(rt; forge.done() == [3, 0, 0, 0, 5, 0, 0, 0, b'h', b'i', 0].as_slice());
     Ok(())
 }
