@@ -34,14 +34,24 @@ fn no_room_for_the_last_atom(rt: HostRuntime) -> Result<(), Fail> {
     Ok(())
 }
 
+/// Writes an Int alone.
+fn writes_int(forge: &mut Forge) -> bool {
+    forge.clear();
+    forge.int(-2).is_ok() && forge.done() == [4, 0, 0, 0, 1, 0, 0, 0, 254, 255, 255, 255].as_slice()
+}
+
+/// Writes a Long alone.
+fn writes_long(forge: &mut Forge) -> bool {
+    forge.clear();
+    forge.long(1 << 32).is_ok()
+        && forge.done() == [8, 0, 0, 0, 2, 0, 0, 0, 0, 0, 0, 0, 1, 0, 0, 0].as_slice()
+}
+
 #[test]
 fn outer_numbers(rt: HostRuntime) -> Result<(), Fail> {
     let mut forge = Forge::with_room(rt.alloc(), 16)?;
-    assert_eq!(rt; forge.int(-2), Ok(()));
-    assert!(rt; forge.done() == [4, 0, 0, 0, 1, 0, 0, 0, 254, 255, 255, 255].as_slice());
-    forge.clear();
-    assert_eq!(rt; forge.long(1 << 32), Ok(()));
-    assert_eq!(rt; forge.done().len(), 16);
+    let both = writes_int(&mut forge) && writes_long(&mut forge);
+    assert!(rt; both);
     Ok(())
 }
 
@@ -50,5 +60,39 @@ fn an_outer_string(rt: HostRuntime) -> Result<(), Fail> {
     let mut forge = Forge::with_room(rt.alloc(), 11)?;
     assert_eq!(rt; forge.string("hi".as_bytes()), Ok(()));
     assert!(rt; forge.done() == [3, 0, 0, 0, 5, 0, 0, 0, b'h', b'i', 0].as_slice());
+    Ok(())
+}
+
+/// Writes an Int alone, and looks at it.
+fn int_again(forge: &mut Forge, number: i32) -> Option<i32> {
+    forge.clear();
+    match forge.int(number) {
+        Ok(()) => forge.view().int(),
+        Err(NoRoom) => None,
+    }
+}
+
+#[test]
+fn an_atom_that_was_forged_is_viewed(rt: HostRuntime) -> Result<(), Fail> {
+    let mut forge = Forge::with_room(rt.alloc(), 12)?;
+    assert_eq!(rt; int_again(&mut forge, -5), Some(-5));
+    Ok(())
+}
+
+/// Opens a sequence, writes the time of an event and takes it back.
+fn take_back(forge: &mut Forge) -> Result<(), NoRoom> {
+    forge.clear();
+    forge.sequence()?;
+    let mark = forge.mark();
+    forge.event(7)?;
+    forge.back(mark);
+    Ok(())
+}
+
+#[test]
+fn an_event_is_taken_back(rt: HostRuntime) -> Result<(), Fail> {
+    let mut forge = Forge::with_room(rt.alloc(), 24)?;
+    assert_eq!(rt; take_back(&mut forge), Ok(()));
+    assert_eq!(rt; forge.done().len(), 16);
     Ok(())
 }
