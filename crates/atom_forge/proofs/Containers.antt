@@ -1,14 +1,15 @@
 -- A container that is filled and closed is its atom; what stands up to a mark is what stood when it was given.
-use Rattle.std.proofs.Common.{◌≡◌, ℕ, ◌+◌, ◌-◌, Bool, false, List, [], ◌∷◌, ◌++◌, length, take, drop, refl, sym, ap, ◌∙◌, arith, length-append}
+use Rattle.std.proofs.Common.{◌≡◌, ℕ, ◌+◌, ◌-◌, Bool, false, if◌then◌else◌, List, [], ◌∷◌, ◌++◌, length, take, drop, refl, sym, ap, ◌∙◌, arith, length-append, ◌<◌}
+use Rattle.std.proofs.lemmas.Bool.{ne_eqb}
 use Rattle.std.proofs.lemmas.List.{take-append-le, drop_at, take_all, append_assoc}
 use Rattle.atom_core.specs.Value.{sequence, Parts, holding}
-use Rattle.atom_core.specs.Spelling.{u32, framed, atom_of, parts_of}
+use Rattle.atom_core.specs.Spelling.{u32, framed, atom_of, parts_of, lead_bytes, part_of, with_padding}
 use Rattle.atom_core.proofs.Numbers.{u32-length}
 use Rattle.atom_forge.specs.declared.level.Holds.{Holds}
 use Rattle.atom_forge.specs.declared.level.Holds.TheVariants.{Properties, Events}
 use Rattle.atom_forge.specs.declared.level.Level.{Level}
-use Rattle.atom_forge.specs.Forged.{Forged, opening, with_piece, with_container, begins, sized, closed}
-use Rattle.atom_forge.specs.Laws.{filled, ContainerIsAtom, BackIsBefore}
+use Rattle.atom_forge.specs.Forged.{Forged, opening, with_piece, with_container, begins, sized, closed, laid}
+use Rattle.atom_forge.specs.Laws.{filled, ContainerIsAtom, BackIsBefore, PartIsPut}
 use Rattle.atom_forge.proofs.Levels.{begins-last}
 
 front : {A : Type 0} (n : ℕ) (xs ys : List A) → length xs ≡ n → take n (xs ++ ys) ≡ xs
@@ -66,3 +67,14 @@ back_is_before mark forge bytes levels waits h =
     ap (λ (b : List ℕ). record { room = forge.room; bytes = b; levels = take mark.levels (forge.levels ++ levels); waits = mark.waits }) (front mark.len forge.bytes bytes (sym h.len))
     ∙ ap (λ (ls : List Level). record { room = forge.room; bytes = forge.bytes; levels = ls; waits = mark.waits }) (front mark.levels forge.levels levels (sym h.levels))
     ∙ ap (λ (w : Bool). record { room = forge.room; bytes = forge.bytes; levels = forge.levels; waits = w }) h.waits
+
+inner_laid : (levels : List Level) (bytes : List ℕ) → 0 < length levels → laid levels bytes ≡ with_padding bytes
+inner_laid levels bytes lt =
+    ap (λ (outer : Bool). if outer then bytes else with_padding bytes) (ne_eqb (length levels) 0 (λ e. omega (arith, lt, e)))
+
+pub part_is_put : PartIsPut
+part_is_put forge lead value within =
+    let bytes : (forge.bytes ++ lead_bytes lead) ++ laid forge.levels (atom_of value) ≡ forge.bytes ++ part_of lead value =
+    ap (λ (l : List ℕ). (forge.bytes ++ lead_bytes lead) ++ l) (inner_laid forge.levels (atom_of value) within)
+    ∙ append_assoc forge.bytes (lead_bytes lead) (with_padding (atom_of value)) in
+    ap (λ (b : List ℕ). record { room = forge.room; bytes = b; levels = forge.levels; waits = false }) bytes

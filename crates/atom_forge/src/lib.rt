@@ -9,7 +9,7 @@ mod piece;
 mod room;
 
 pub use forge::Forge;
-pub use laws::{back_is_before, container_is_atom};
+pub use laws::{back_is_before, container_is_atom, part_is_put};
 pub use level::{Holds, Level};
 pub use mark::Mark;
 pub use room::NoRoom;
