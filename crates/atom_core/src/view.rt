@@ -55,7 +55,7 @@ fn without_zero(text: &[u8]) -> &[u8]
 
 impl<'a> AtomView<'a> {
     /// The atom that bytes spell.
-    pub(crate) fn over(bytes: &'a [u8]) -> Self
+    pub fn over(bytes: &'a [u8]) -> Self
         requires { ∥ IsAtom bytes.now ∥₁ }
         ensures { result.bytes.now ≡ bytes.now }
     {

@@ -1,4 +1,5 @@
 mod answers;
 mod events;
+mod forging;
 mod nesting;
 mod views;

@@ -1,0 +1,3 @@
+pub mod Forged
+pub mod Inside
+pub mod Laws
