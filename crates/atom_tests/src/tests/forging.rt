@@ -96,3 +96,18 @@ fn an_event_is_taken_back(rt: HostRuntime) -> Result<(), Fail> {
     assert_eq!(rt; forge.done().len(), 16);
     Ok(())
 }
+
+/// Writes a Chunk alone.
+fn writes_chunk(forge: &mut Forge) -> bool {
+    forge.clear();
+    forge.raw(11, &[1, 2, 3]).is_ok()
+        && forge.done() == [3, 0, 0, 0, 11, 0, 0, 0, 1, 2, 3].as_slice()
+}
+
+#[test]
+fn an_outer_chunk(rt: HostRuntime) -> Result<(), Fail> {
+    let mut forge = Forge::with_room(rt.alloc(), 11)?;
+    let whole = writes_chunk(&mut forge);
+    assert!(rt; whole);
+    Ok(())
+}
