@@ -3,8 +3,8 @@ use Rattle.std.specs.Prelude.{◌≡◌, ℕ, List, if◌then◌else◌, refl}
 use Rattle.std.specs.Str.{bytes_eq}
 use Rattle.std.proofs.Common.{inl, inr}
 use Rattle.lv_base.specs.declared.number.Sample.{Sample}
-use Rattle.plug_api.specs.Inputs.{Inputs}
-use Rattle.plug_api.specs.Stock.{const_uri, amp_uri, IsStockUri}
+use Rattle.audio_api.specs.Inputs.{Inputs}
+use Rattle.audio_api.specs.Stock.{const_uri, amp_uri, IsStockUri}
 use Rattle.host_main.specs.declared.stock.StockFront.{StockFront}
 use Rattle.host_main.specs.declared.stock.StockFront.TheVariants.{Constant, Amplifier}
 use Rattle.host_main.specs.StockSound.{constant_sound, amplifier_sound}

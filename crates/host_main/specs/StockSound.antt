@@ -2,7 +2,7 @@
 use Rattle.std.specs.Prelude.{List, map, replicate}
 use Rattle.lv_base.specs.Number.{sample_of, gained}
 use Rattle.lv_base.specs.declared.number.Sample.{Sample}
-use Rattle.plug_api.specs.Inputs.{Inputs, samples_at, value_at}
+use Rattle.audio_api.specs.Inputs.{Inputs, samples_at, value_at}
 
 -- a constant: the value at port 0 as a sample, in every frame
 abbrev pub constant_sound : Inputs → List Sample

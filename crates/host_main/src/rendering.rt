@@ -13,7 +13,7 @@ use crate::refusal::{DONE, Refusal, Target};
 use crate::say::say;
 use lv_base::{Bytes, NoMemory, Text};
 use lv_outside::{Put, Sink, Vault};
-use plug_api::Codes;
+use audio_api::Codes;
 use session_script::Session;
 use std::alloc::Global;
 

@@ -1,5 +1,5 @@
 use lv_base::{NoMemory, Text};
-use plug_api::{Codes, Front, Ports};
+use audio_api::{Codes, Front, Ports};
 use std::alloc::Global;
 
 mod amplifier;

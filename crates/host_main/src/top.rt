@@ -14,7 +14,7 @@ use crate::rendering::run_render;
 use crate::say::{say_no_memory, say_usage};
 use lv_base::Text;
 use lv_outside::{Gate, Sink, Vault};
-use plug_api::Codes;
+use audio_api::Codes;
 use std::alloc::Global;
 
 /// Does what the words say, and answers the status that the program ends with.

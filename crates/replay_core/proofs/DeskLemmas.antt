@@ -5,11 +5,11 @@ use Rattle.std.proofs.lemmas.List.Elements.{All-same, All-replicate}
 use Rattle.lv_base.specs.declared.number.Fixed.{Fixed}
 use Rattle.lv_base.specs.declared.number.Sample.{Sample}
 use Rattle.session_script.specs.declared.session.Session.{Session}
-use Rattle.plug_api.specs.declared.stock.StockPorts.{StockPorts}
-use Rattle.plug_api.specs.Inputs.{Inputs, silent_inputs, samples_at, with_samples, with_value}
-use Rattle.plug_api.specs.Outputs.{Outputs, silent_outputs}
-use Rattle.plug_api.specs.Sound.{silence, silent}
-use Rattle.plug_api.specs.StockPorts.{const_ports, amp_ports}
+use Rattle.audio_api.specs.declared.stock.StockPorts.{StockPorts}
+use Rattle.audio_api.specs.Inputs.{Inputs, silent_inputs, samples_at, with_samples, with_value}
+use Rattle.audio_api.specs.Outputs.{Outputs, silent_outputs}
+use Rattle.audio_api.specs.Sound.{silence, silent}
+use Rattle.audio_api.specs.StockPorts.{const_ports, amp_ports}
 use Rattle.replay_core.specs.declared.desk.Desk.{Desk}
 use Rattle.replay_core.specs.Signals.{with_audio, mixed}
 use Rattle.replay_core.specs.Play.{silent_signals}

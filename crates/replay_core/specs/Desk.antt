@@ -4,7 +4,7 @@ use Rattle.lv_base.specs.declared.number.Sample.{Sample}
 use Rattle.session_script.specs.declared.session.Session.{Session}
 use Rattle.replay_core.specs.declared.strip.Strip.{Strip}
 use Rattle.replay_core.specs.declared.desk.Desk.{Desk}
-use Rattle.plug_api.specs.Sound.{AreWhole}
+use Rattle.audio_api.specs.Sound.{AreWhole}
 use Rattle.replay_core.specs.Signals.{ports_at, quiet_inputs, with_audio}
 
 -- the strip of instance i: all that it is given but for the signal at its audio input is as in every block

@@ -8,8 +8,8 @@ use Rattle.step_law.specs.declared.entry.Entry.{Entry}
 use Rattle.step_law.specs.declared.entry.Kind.{Kind}
 use Rattle.step_law.specs.declared.entry.Kind.TheVariants.{Block, Done, End}
 use Rattle.step_record.specs.Call.{call_at}
-use Rattle.plug_api.specs.Inputs.{Inputs}
-use Rattle.plug_api.specs.Sound.{silence}
+use Rattle.audio_api.specs.Inputs.{Inputs}
+use Rattle.audio_api.specs.Sound.{silence}
 use Rattle.replay_core.specs.Signals.{uri_at, inputs_at}
 use Rattle.replay_core.specs.Pcm.{block_bytes}
 

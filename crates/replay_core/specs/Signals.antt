@@ -8,10 +8,10 @@ use Rattle.session_script.specs.declared.session.Session.{Session}
 use Rattle.session_script.specs.declared.session.Inst.{Inst}
 use Rattle.session_script.specs.declared.session.SetLine.{SetLine}
 use Rattle.session_script.specs.declared.session.CableLine.{CableLine}
-use Rattle.plug_api.specs.declared.stock.StockPorts.{StockPorts}
-use Rattle.plug_api.specs.Inputs.{Inputs, silent_inputs, with_samples, with_value}
-use Rattle.plug_api.specs.Sound.{silent}
-use Rattle.plug_api.specs.StockPorts.{stock_ports}
+use Rattle.audio_api.specs.declared.stock.StockPorts.{StockPorts}
+use Rattle.audio_api.specs.Inputs.{Inputs, silent_inputs, with_samples, with_value}
+use Rattle.audio_api.specs.Sound.{silent}
+use Rattle.audio_api.specs.StockPorts.{stock_ports}
 use Rattle.replay_core.specs.Each.{each}
 
 -- the URI of each instance

@@ -1,6 +1,6 @@
 ghost use Rattle.std.specs.Prelude.{◌≡◌};
 
-use plug_api::Front;
+use audio_api::Front;
 
 /// Activates a front, which stays of its code.
 pub(crate) fn activate<F: Front>(front: &mut F)

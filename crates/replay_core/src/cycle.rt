@@ -12,7 +12,7 @@ ghost use Rattle.replay_core.specs.Run.{IsRunning, Plays};
 use crate::pcm::push_block;
 use crate::run::Run;
 use lv_base::NoMemory;
-use plug_api::Codes;
+use audio_api::Codes;
 use session_script::Session;
 use step_record::{Actor, Entry, Ring};
 

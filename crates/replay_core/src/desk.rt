@@ -1,7 +1,7 @@
 ghost use Rattle.std.specs.Prelude.{◌≡◌, ◌<◌, length, slice_set, IfOk};
 ghost use Rattle.session_script.specs.Playable.{IsPlayable};
-ghost use Rattle.plug_api.specs.Outputs.{silenced, block_at};
-ghost use Rattle.plug_api.specs.Sound.{silence};
+ghost use Rattle.audio_api.specs.Outputs.{silenced, block_at};
+ghost use Rattle.audio_api.specs.Sound.{silence};
 ghost use Rattle.replay_core.specs.Signals.{inputs_at, uri_at};
 ghost use Rattle.replay_core.specs.Play.{silent_signals};
 ghost use Rattle.replay_core.specs.Desk.{IsReady};
@@ -9,7 +9,7 @@ ghost use Rattle.replay_core.specs.Desk.{IsReady};
 use crate::mixer::Mixer;
 use crate::strip::Strip;
 use lv_base::NoMemory;
-use plug_api::{Front, Outs};
+use audio_api::{Front, Outs};
 use session_script::Session;
 use std::alloc::Global;
 

@@ -1,14 +1,14 @@
 ghost use Rattle.std.specs.Prelude.{◌≡◌, ◌≤◌, ◌<◌, ◌+ℤ◌, ◌≤ℤ◌, ◌-ℤ◌, ℕ, ℤ, pos, neg_ℤ, [], ◌∷◌, length, map, slice_index_or, All, IfOk, EachIndex};
 ghost use Rattle.lv_base.specs.Number.{clamped};
 ghost use Rattle.session_script.specs.declared.session.CableLine.{CableLine};
-ghost use Rattle.plug_api.specs.Outputs.{block_at};
-ghost use Rattle.plug_api.specs.Sound.{AreWhole};
+ghost use Rattle.audio_api.specs.Outputs.{block_at};
+ghost use Rattle.audio_api.specs.Sound.{AreWhole};
 ghost use Rattle.replay_core.specs.Each.{each};
 ghost use Rattle.replay_core.specs.Signals.{signal_at, sample_at, sources_of, mixed};
 ghost use Rattle.replay_core.specs.Mixer.{number_at, sum_at, IsNear};
 
 use lv_base::{NoMemory, Sample};
-use plug_api::Outs;
+use audio_api::Outs;
 use session_script::Session;
 use std::alloc::Global;
 use std::marker::Model;

@@ -15,7 +15,7 @@ use crate::phases::clean_up;
 use crate::run::Run;
 use crate::summary::summary;
 use lv_base::NoMemory;
-use plug_api::Codes;
+use audio_api::Codes;
 use session_script::Session;
 use std::alloc::Global;
 

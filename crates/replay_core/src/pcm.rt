@@ -1,11 +1,11 @@
 ghost use Rattle.std.specs.Prelude.{◌≡◌, ℕ, ◌<◌, ◌++◌, length, All, OnOk};
 ghost use Rattle.session_script.specs.declared.session.OutLine.{OutLine};
-ghost use Rattle.plug_api.specs.Outputs.{block_at};
-ghost use Rattle.plug_api.specs.Sound.{AreWhole};
+ghost use Rattle.audio_api.specs.Outputs.{block_at};
+ghost use Rattle.audio_api.specs.Sound.{AreWhole};
 ghost use Rattle.replay_core.specs.Pcm.{sample_bytes, frame_bytes, block_bytes};
 
 use lv_base::{Bytes, NoMemory, Sample, pcm16};
-use plug_api::Outs;
+use audio_api::Outs;
 use session_script::Session;
 
 /// Adds the PCM of a block: its frames in order, and of each the channels in order.

@@ -10,7 +10,7 @@ ghost use Rattle.replay_core.specs.Run.{moment_of, IsRunning, Plays};
 
 use crate::run::Run;
 use lv_base::{Bytes, NoMemory};
-use plug_api::{Codes, Front};
+use audio_api::{Codes, Front};
 use session_script::Session;
 use std::alloc::Global;
 use step_record::{Actor, Call, Entry, Record, Ring};

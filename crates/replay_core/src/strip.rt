@@ -3,12 +3,12 @@ ghost use Rattle.session_script.specs.declared.session.SetLine.{SetLine};
 ghost use Rattle.session_script.specs.Playable.{IsPlayable};
 ghost use Rattle.replay_core.specs.Signals.{inputs_at, uri_at, value_of, ports_at};
 ghost use Rattle.replay_core.specs.Desk.{IsStrip};
-ghost use Rattle.plug_api.specs.Outputs.{block_at, with_block};
-ghost use Rattle.plug_api.specs.Sound.{silence, AreWhole};
+ghost use Rattle.audio_api.specs.Outputs.{block_at, with_block};
+ghost use Rattle.audio_api.specs.Sound.{silence, AreWhole};
 
 use crate::mixer::Mixer;
 use lv_base::{Fixed, NoMemory};
-use plug_api::{Front, Ins, Outs, Ports, StockPorts};
+use audio_api::{Front, Ins, Outs, Ports, StockPorts};
 use session_script::Session;
 use std::alloc::Global;
 

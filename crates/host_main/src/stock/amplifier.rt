@@ -1,11 +1,11 @@
 ghost use Rattle.std.specs.Prelude.{◌≡◌, length, map};
 ghost use Rattle.lv_base.specs.Number.{gained};
-ghost use Rattle.plug_api.specs.Ports.{AreLent, inputs_of, outputs_of, reference_of, with_output};
-ghost use Rattle.plug_api.specs.StockPorts.{amp_ports};
+ghost use Rattle.audio_api.specs.Ports.{AreLent, inputs_of, outputs_of, reference_of, with_output};
+ghost use Rattle.audio_api.specs.StockPorts.{amp_ports};
 ghost use Rattle.host_main.specs.StockSound.{amplifier_sound};
 
 use lv_base::{Fixed, Sample, gain};
-use plug_api::Ports;
+use audio_api::Ports;
 
 const GAIN: u32 = 0;
 

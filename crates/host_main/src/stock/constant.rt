@@ -1,10 +1,10 @@
 ghost use Rattle.std.specs.Prelude.{◌≡◌, length};
-ghost use Rattle.plug_api.specs.Ports.{AreLent, inputs_of, outputs_of, reference_of, with_output};
-ghost use Rattle.plug_api.specs.StockPorts.{const_ports};
+ghost use Rattle.audio_api.specs.Ports.{AreLent, inputs_of, outputs_of, reference_of, with_output};
+ghost use Rattle.audio_api.specs.StockPorts.{const_ports};
 ghost use Rattle.host_main.specs.StockSound.{constant_sound};
 
 use lv_base::to_sample;
-use plug_api::Ports;
+use audio_api::Ports;
 
 const VALUE: u32 = 0;
 

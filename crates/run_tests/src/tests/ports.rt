@@ -1,5 +1,5 @@
 use lv_base::{Fixed, NoMemory, Sample, Text};
-use plug_api::{Ins, Outs, Ports, StockPorts};
+use audio_api::{Ins, Outs, Ports, StockPorts};
 use std::process::Abort;
 
 fn assert_samples<R: Abort>(rt: &R, got: &[Sample], wanted: &[Sample]) {

@@ -1,11 +1,11 @@
 ghost use Rattle.std.specs.Prelude.{◌≡◌, length, replicate};
 ghost use Rattle.lv_base.specs.Number.{sample_of};
-ghost use Rattle.plug_api.specs.Inputs.{samples_at, value_at};
-ghost use Rattle.plug_api.specs.Ports.{AreLent, inputs_of, outputs_of, reference_of, with_output};
-ghost use Rattle.plug_api.specs.StockPorts.{const_ports, amp_ports};
+ghost use Rattle.audio_api.specs.Inputs.{samples_at, value_at};
+ghost use Rattle.audio_api.specs.Ports.{AreLent, inputs_of, outputs_of, reference_of, with_output};
+ghost use Rattle.audio_api.specs.StockPorts.{const_ports, amp_ports};
 
 use lv_base::{NoMemory, Text, to_sample};
-use plug_api::{Codes, Front, Ports};
+use audio_api::{Codes, Front, Ports};
 use std::alloc::Global;
 
 /// Codes that do as little as can be heard: a constant, and an amplifier that gives what it gets.
@@ -21,7 +21,7 @@ impl Codes for Toys {
     ghost use Rattle.std.specs.Prelude.{not, refl};
     ghost use Rattle.std.specs.Str.{bytes_eq};
     ghost use Rattle.std.proofs.Common.{⊎_elim};
-    ghost use Rattle.plug_api.specs.Stock.{const_uri};
+    ghost use Rattle.audio_api.specs.Stock.{const_uri};
 
     type Front = ToyFront;
 
@@ -39,8 +39,8 @@ impl Codes for Toys {
 impl Front for ToyFront {
     ghost use Rattle.std.specs.Prelude.{if◌then◌else◌, replicate, refl};
     ghost use Rattle.lv_base.specs.Number.{sample_of};
-    ghost use Rattle.plug_api.specs.Inputs.{samples_at, value_at};
-    ghost use Rattle.plug_api.specs.Stock.{const_uri, amp_uri};
+    ghost use Rattle.audio_api.specs.Inputs.{samples_at, value_at};
+    ghost use Rattle.audio_api.specs.Stock.{const_uri, amp_uri};
 
     ghost uri_of = { λ front. if front.passes_on then amp_uri else const_uri };
 

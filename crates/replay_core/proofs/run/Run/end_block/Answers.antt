@@ -1,6 +1,6 @@
 use Rattle.std.proofs.Common.{ℕ, List, [], ◌∷◌, ap, ◌++◌, ◌∙◌}
 use Rattle.step_law.specs.declared.entry.Entry.{Entry}
-use Rattle.plug_api.specs.Outputs.{Outputs}
+use Rattle.audio_api.specs.Outputs.{Outputs}
 use Rattle.replay_core.specs.Pcm.{block_bytes}
 use Rattle.replay_core.specs.Run.{moment_of}
 use Rattle.replay_core.proofs.run.Run.end_block.Goals as goal

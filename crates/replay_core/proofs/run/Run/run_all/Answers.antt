@@ -1,6 +1,6 @@
 use Rattle.std.proofs.Common.{[], length, ◌∙◌, arith}
 use Rattle.std.proofs.lemmas.List.{get_or-replicate}
-use Rattle.plug_api.specs.Sound.{silence}
+use Rattle.audio_api.specs.Sound.{silence}
 use Rattle.replay_core.specs.Play.{silent_signals}
 use Rattle.step_law.specs.declared.actor.Actor.TheVariants.{Audio}
 use Rattle.step_law.specs.declared.call.Call.TheVariants.{Run}

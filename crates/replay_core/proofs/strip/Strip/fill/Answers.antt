@@ -1,8 +1,8 @@
 use Rattle.std.proofs.Common.{◌≡◌, Some, length, map, ap, sym, ◌∙◌}
 use Rattle.std.specs.Str.{bytes_eq}
-use Rattle.plug_api.specs.declared.stock.StockPorts.{StockPorts}
-use Rattle.plug_api.specs.Inputs.{Inputs, samples_at, with_samples}
-use Rattle.plug_api.specs.Stock.{const_uri}
+use Rattle.audio_api.specs.declared.stock.StockPorts.{StockPorts}
+use Rattle.audio_api.specs.Inputs.{Inputs, samples_at, with_samples}
+use Rattle.audio_api.specs.Stock.{const_uri}
 use Rattle.replay_core.specs.Signals.{uri_at, ports_at, value_of, signal_at, sources_of}
 use Rattle.replay_core.proofs.DeskLemmas.{length-mixed, samples_at-with_audio, with_samples-with_audio}
 use Rattle.replay_core.proofs.strip.Strip.fill.Goals as goal

@@ -2,9 +2,9 @@ use Rattle.std.proofs.Common.{◌≡◌, List, [], get_or, ap, sym, ◌∙◌}
 use Rattle.std.specs.Str.{bytes_eq}
 use Rattle.std.proofs.lemmas.List.{get_or-map, length-replicate}
 use Rattle.session_script.specs.declared.session.Inst.{Inst}
-use Rattle.plug_api.specs.Sound.{silence, silent}
-use Rattle.plug_api.specs.Stock.{const_uri}
-use Rattle.plug_api.specs.StockPorts.{stock_ports}
+use Rattle.audio_api.specs.Sound.{silence, silent}
+use Rattle.audio_api.specs.Stock.{const_uri}
+use Rattle.audio_api.specs.StockPorts.{stock_ports}
 use Rattle.replay_core.specs.Signals.{uri_at, ports_at, value_of}
 use Rattle.replay_core.proofs.DeskLemmas.{with_audio-silence}
 use Rattle.replay_core.proofs.strip.Strip.new.Goals as goal

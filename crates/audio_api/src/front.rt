@@ -1,7 +1,7 @@
 ghost use Rattle.std.specs.Prelude.{◌≡◌, List, ℕ, length};
 ghost use Rattle.lv_base.specs.declared.number.Sample.{Sample};
-ghost use Rattle.plug_api.specs.Inputs.{Inputs};
-ghost use Rattle.plug_api.specs.Ports.{ArePortsOf, inputs_of, outputs_of, reference_of, filled};
+ghost use Rattle.audio_api.specs.Inputs.{Inputs};
+ghost use Rattle.audio_api.specs.Ports.{ArePortsOf, inputs_of, outputs_of, reference_of, filled};
 
 use crate::Ports;
 

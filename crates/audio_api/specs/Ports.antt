@@ -2,12 +2,12 @@
 use Rattle.std.specs.Prelude.{◌≡◌, ◌<◌, ℕ, List, length, slice_index}
 use Rattle.std.specs.Borrow.{GName}
 use Rattle.lv_base.specs.declared.number.Sample.{Sample}
-use Rattle.plug_api.specs.declared.ports.Ports.{Ports}
-use Rattle.plug_api.specs.declared.stock.StockPorts.{StockPorts}
-use Rattle.plug_api.specs.Sound.{silence, AreWhole}
-use Rattle.plug_api.specs.Inputs.{Inputs}
-use Rattle.plug_api.specs.Outputs.{Outputs, block_at, with_block}
-use Rattle.plug_api.specs.StockPorts.{stock_ports}
+use Rattle.audio_api.specs.declared.ports.Ports.{Ports}
+use Rattle.audio_api.specs.declared.stock.StockPorts.{StockPorts}
+use Rattle.audio_api.specs.Sound.{silence, AreWhole}
+use Rattle.audio_api.specs.Inputs.{Inputs}
+use Rattle.audio_api.specs.Outputs.{Outputs, block_at, with_block}
+use Rattle.audio_api.specs.StockPorts.{stock_ports}
 
 -- what the run is given
 abbrev pub inputs_of : Ports → Inputs

@@ -1,8 +1,8 @@
 -- The ports of the stock codes.
 use Rattle.std.specs.Prelude.{ℕ, List, pos, Some, None, if◌then◌else◌}
 use Rattle.std.specs.Str.{bytes_eq}
-use Rattle.plug_api.specs.declared.stock.StockPorts.{StockPorts}
-use Rattle.plug_api.specs.Stock.{const_uri}
+use Rattle.audio_api.specs.declared.stock.StockPorts.{StockPorts}
+use Rattle.audio_api.specs.Stock.{const_uri}
 
 -- a constant: value (control in, first 0), out
 abbrev pub const_ports : StockPorts

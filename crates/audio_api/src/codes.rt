@@ -1,5 +1,5 @@
 ghost use Rattle.std.specs.Prelude.{◌≡◌, List, ℕ, IfOk};
-ghost use Rattle.plug_api.specs.Stock.{IsStockUri};
+ghost use Rattle.audio_api.specs.Stock.{IsStockUri};
 
 use crate::Front;
 use lv_base::{NoMemory, Text};

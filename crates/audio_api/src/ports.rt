@@ -1,8 +1,8 @@
 ghost use Rattle.std.specs.Prelude.{◌≡◌, ◌<◌, length};
 ghost use Rattle.std.specs.Borrow.{sem};
-ghost use Rattle.plug_api.specs.Inputs.{samples_at, value_at};
-ghost use Rattle.plug_api.specs.Ports.{inputs_of, places_of, outputs_of, reference_of, place_of, block_of};
-ghost use Rattle.plug_api.specs.Lending.{LendsOutput};
+ghost use Rattle.audio_api.specs.Inputs.{samples_at, value_at};
+ghost use Rattle.audio_api.specs.Ports.{inputs_of, places_of, outputs_of, reference_of, place_of, block_of};
+ghost use Rattle.audio_api.specs.Lending.{LendsOutput};
 
 use crate::{Ins, Outs};
 use lv_base::{Fixed, Sample};

@@ -1,7 +1,7 @@
 ghost use Rattle.std.specs.Prelude.{◌≡◌, ◌<◌, length, IfOk};
 ghost use Rattle.std.specs.Borrow.{sem};
-ghost use Rattle.plug_api.specs.Inputs.{silent_inputs, samples_at, value_at, with_samples, with_value};
-ghost use Rattle.plug_api.specs.Lending.{LendsInput};
+ghost use Rattle.audio_api.specs.Inputs.{silent_inputs, samples_at, value_at, with_samples, with_value};
+ghost use Rattle.audio_api.specs.Lending.{LendsInput};
 
 use crate::Block;
 use crate::block::silent_blocks;
@@ -19,7 +19,7 @@ pub struct Ins {
 }
 
 impl Model for Ins {
-    ghost use Rattle.plug_api.specs.Inputs.{Inputs};
+    ghost use Rattle.audio_api.specs.Inputs.{Inputs};
 
     ghost Value = { Inputs };
 

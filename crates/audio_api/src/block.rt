@@ -1,7 +1,7 @@
 ghost use Rattle.std.specs.Prelude.{◌≡◌, length, replicate, IfOk};
 ghost use Rattle.std.specs.Borrow.{sem};
-ghost use Rattle.plug_api.specs.Sound.{silence, hushed};
-ghost use Rattle.plug_api.specs.Lending.{LendsSamples};
+ghost use Rattle.audio_api.specs.Sound.{silence, hushed};
+ghost use Rattle.audio_api.specs.Lending.{LendsSamples};
 
 use lv_base::{NoMemory, Sample};
 use std::alloc::Global;

@@ -1,6 +1,6 @@
 ghost use Rattle.std.specs.Prelude.{◌≡◌};
-ghost use Rattle.plug_api.specs.Stock.{IsStockUri};
-ghost use Rattle.plug_api.specs.StockPorts.{stock_ports};
+ghost use Rattle.audio_api.specs.Stock.{IsStockUri};
+ghost use Rattle.audio_api.specs.StockPorts.{stock_ports};
 
 use lv_base::{Fixed, Text};
 

@@ -2,7 +2,7 @@
 use Rattle.std.specs.Prelude.{ℕ, List, [], pos, replicate, slice_index_or, slice_set}
 use Rattle.lv_base.specs.declared.number.Fixed.{Fixed}
 use Rattle.lv_base.specs.declared.number.Sample.{Sample}
-use Rattle.plug_api.specs.Sound.{silence}
+use Rattle.audio_api.specs.Sound.{silence}
 
 -- the frames of the block, and by port number the samples of audio inputs and the values of control inputs
 pub record Inputs : Type 0 where

@@ -5,15 +5,15 @@ use mir.Syntax.{named}
 use denote.MutBor.{at_last}
 use Rattle.lv_base.specs.declared.number.Sample.{Sample}
 use Rattle.lv_base.specs.contracts.number.Sample.{the_row as sample_row}
-use Rattle.plug_api.specs.contracts.block.Block.{the_row as block_row}
-use Rattle.plug_api.specs.contracts.ins.Ins.{the_row as ins_row}
-use Rattle.plug_api.specs.contracts.outs.Outs.{the_row as outs_row}
-use Rattle.plug_api.specs.contracts.ports.Ports.{the_row as ports_row}
-use Rattle.plug_api.specs.declared.ports.Ports.{Ports}
-use Rattle.plug_api.specs.Sound.{refilled}
-use Rattle.plug_api.specs.Inputs.{Inputs, with_samples}
-use Rattle.plug_api.specs.Outputs.{Outputs, with_block}
-use Rattle.plug_api.specs.Ports.{block_of, with_output}
+use Rattle.audio_api.specs.contracts.block.Block.{the_row as block_row}
+use Rattle.audio_api.specs.contracts.ins.Ins.{the_row as ins_row}
+use Rattle.audio_api.specs.contracts.outs.Outs.{the_row as outs_row}
+use Rattle.audio_api.specs.contracts.ports.Ports.{the_row as ports_row}
+use Rattle.audio_api.specs.declared.ports.Ports.{Ports}
+use Rattle.audio_api.specs.Sound.{refilled}
+use Rattle.audio_api.specs.Inputs.{Inputs, with_samples}
+use Rattle.audio_api.specs.Outputs.{Outputs, with_block}
+use Rattle.audio_api.specs.Ports.{block_of, with_output}
 
 -- the block s ends as the samples behind r
 abbrev pub LendsSamples : MutBor (List Sample) → MutBor (List Sample) → Fml

@@ -1,8 +1,8 @@
 ghost use Rattle.std.specs.Prelude.{◌≡◌, ◌<◌, ℕ, length, IfOk};
 ghost use Rattle.std.specs.Borrow.{sem};
-ghost use Rattle.plug_api.specs.Sound.{AreWhole};
-ghost use Rattle.plug_api.specs.Outputs.{silent_outputs, silenced, block_at, value_at};
-ghost use Rattle.plug_api.specs.Lending.{LendsPlace};
+ghost use Rattle.audio_api.specs.Sound.{AreWhole};
+ghost use Rattle.audio_api.specs.Outputs.{silent_outputs, silenced, block_at, value_at};
+ghost use Rattle.audio_api.specs.Lending.{LendsPlace};
 
 use crate::Block;
 use crate::block::silent_blocks;
@@ -19,8 +19,8 @@ pub struct Outs {
 }
 
 impl Model for Outs {
-    ghost use Rattle.plug_api.specs.Sound.{AreWhole};
-    ghost use Rattle.plug_api.specs.Outputs.{Outputs};
+    ghost use Rattle.audio_api.specs.Sound.{AreWhole};
+    ghost use Rattle.audio_api.specs.Outputs.{Outputs};
 
     ghost Value = { Outputs };
 

@@ -2,7 +2,7 @@
 use Rattle.std.proofs.Common.{◌≡◌, ℕ, suc, List, [], ◌∷◌, length, replicate, refl, ap, arith}
 use Rattle.std.specs.Prelude.{map}
 use Rattle.lv_base.specs.declared.number.Sample.{Sample}
-use Rattle.plug_api.specs.Sound.{silence, hushed, AreWhole}
+use Rattle.audio_api.specs.Sound.{silence, hushed, AreWhole}
 
 -- blocks of the same frames are then one silent block over and over
 pub map-hushed : (frames : ℕ) (blocks : List (List Sample)) → AreWhole frames blocks → map hushed blocks ≡ replicate (length blocks) (silence frames)

@@ -2,8 +2,8 @@
 use Rattle.std.specs.Prelude.{ℕ, List, [], length, map, replicate, slice_index_or, slice_set}
 use Rattle.lv_base.specs.declared.number.Fixed.{Fixed}
 use Rattle.lv_base.specs.declared.number.Sample.{Sample}
-use Rattle.plug_api.specs.Sound.{silence, hushed}
-use Rattle.plug_api.specs.Inputs.{nought}
+use Rattle.audio_api.specs.Sound.{silence, hushed}
+use Rattle.audio_api.specs.Inputs.{nought}
 
 -- by place, the samples of audio outputs and the values of control outputs
 pub record Outputs : Type 0 where

@@ -1,7 +1,7 @@
 use Rattle.std.proofs.Common.{◌≡◌, ◌++◌, take, drop}
 use Rattle.std.specs.Prelude.{map}
-use Rattle.plug_api.specs.Sound.{hushed}
-use Rattle.plug_api.proofs.outs.Outs.silence.Given as goal
+use Rattle.audio_api.specs.Sound.{hushed}
+use Rattle.audio_api.proofs.outs.Outs.silence.Given as goal
 
 -- the blocks so far are silent, and the others as before
 abbrev pub invariant-loop-block : goal.invariant-loop-block
