@@ -31,15 +31,16 @@ fn read_few(alloc: Global, bytes: &[u8]) -> Result<Record, RecordFault>
     if MOST_LINES < count {
         return Err(RecordFault::TooMany(count));
     }
-    read_text(alloc, bytes)
+    read_text(alloc, count, bytes)
 }
 
-fn read_text(alloc: Global, bytes: &[u8]) -> Result<Record, RecordFault>
+// Reads a text that has so many lines after the first: its entries get room at once.
+fn read_text(alloc: Global, count: u64, bytes: &[u8]) -> Result<Record, RecordFault>
     ensures ok { IfOk result (λ steps. IsFormed steps × (bytes.now ≡ record_text steps)) }
     ensures err { IfErr result (λ fault. SaysOfText fault bytes.now) }
 {
     match bytes.strip_prefix("lv2fx-record 1\n".as_bytes()) {
-        Some(lines) => read_lines(alloc, lines),
+        Some(lines) => read_lines(alloc, count, lines),
         None => Err(RecordFault::Syntax(1)),
     }
 }
@@ -62,12 +63,13 @@ fn count_lines(bytes: &[u8]) -> u64
     (feeds + open).saturating_sub(apart)
 }
 
-fn read_lines(alloc: Global, lines: &[u8]) -> Result<Record, RecordFault>
+fn read_lines(alloc: Global, count: u64, lines: &[u8]) -> Result<Record, RecordFault>
     ensures ok { IfOk result (λ steps. IsFormed steps × (lines.now ≡ flat_map line_of steps)) }
     ensures err { IfErr result (λ fault. SaysOfLines fault lines.now) }
 {
     let mut scratch = Bytes::new(alloc);
-    let mut steps = Record::new(alloc);
+    // One more, for the line `end`, which isn't counted.
+    let mut steps = Record::with_room(alloc, count as usize + 1)?;
     push_lines(&mut steps, &mut scratch, lines)?;
     Ok(steps)
 }

@@ -1,4 +1,4 @@
-ghost use Rattle.std.specs.Prelude.{◌≡◌, [], ◌∷◌, ◌++◌, OnOk, OnErr};
+ghost use Rattle.std.specs.Prelude.{◌≡◌, [], ◌∷◌, ◌++◌, IfOk, OnOk, OnErr};
 
 use crate::Entry;
 use lv_base::{Items, NoMemory};
@@ -28,6 +28,15 @@ impl Record {
         Record {
             entries: Items::new(alloc),
         }
+    }
+
+    /// A record without entries that has room for so many, so that none of them moves those before it.
+    pub(crate) fn with_room(alloc: Global, room: usize) -> Result<Self, NoMemory>
+        ensures { IfOk result (λ steps. steps ≡ []) }
+    {
+        Ok(Record {
+            entries: Items::from_vec(Vec::with_capacity(alloc, room)?),
+        })
     }
 
     /// Adds an entry at the end. A refusal leaves all as before.
