@@ -1,0 +1,42 @@
+ghost use Rattle.std.specs.Prelude.{◌≡◌, ℕ, ◌+◌, pos, length, map, replicate, All};
+ghost use Rattle.lv_base.specs.Number.{clamped};
+ghost use Rattle.sound_block.specs.Block.{added, IsSum, most_signals};
+
+use lv_base::Sample;
+
+/// Begins a sum of signals: of none, it is 0 in each frame.
+pub fn clear(acc: &mut [i64])
+    ensures { acc.new ≡ replicate (length acc.old) (pos 0) }
+    ensures count { All (IsSum 0) acc.new }
+{
+    acc.fill(0);
+}
+
+/// Adds a signal, exactly. At most 65,535 signals may have been added before.
+pub fn add(acc: &mut [i64], x: &[Sample])
+    requires whole { length x.now ≡ length acc.old }
+    requires few { All (IsSum most_signals) acc.old }
+    ensures { acc.new ≡ added acc.old x.now }
+    ensures count { (n : ℕ) → All (IsSum n) acc.old → All (IsSum (n + 1)) acc.new }
+{
+    for frame in 0..acc.len() {
+        acc[frame] += i64::from(x[frame].0);
+    }
+}
+
+/// The signal that the sums are: each is clamped, once.
+pub fn finish(acc: &[i64], out: &mut [Sample])
+    requires { length out.old ≡ length acc.now }
+    ensures { out.new ≡ map clamped acc.now }
+{
+    for frame in 0..acc.len() {
+        out[frame] = nearest(acc[frame]);
+    }
+}
+
+// The sample nearest to a sum.
+fn nearest(sum: i64) -> Sample
+    ensures { result ≡ clamped sum }
+{
+    Sample(sum.clamp(i64::from(i32::MIN), i64::from(i32::MAX)) as i32)
+}
