@@ -8,7 +8,7 @@ use Rattle.lv_base.specs.Number.{pcm_of}
 abbrev pub added : List ℤ → List Sample → List ℤ
 added [] signal = []
 added (sum ∷ sums) [] = sum ∷ sums
-added (sum ∷ sums) (sample ∷ signal) = sum +ℤ sample.0 ∷ added sums signal
+added (sum ∷ sums) (sample ∷ signal) = (sum +ℤ sample.0) ∷ added sums signal
 
 -- sums after these signals were added, one after the other
 abbrev pub sums_after : List ℤ → List (List Sample) → List ℤ

@@ -1,7 +1,7 @@
 ghost use Rattle.std.specs.Prelude.{◌≡◌, length, map};
 ghost use Rattle.lv_base.specs.Number.{gained};
 
-use lv_base::{Fixed, Sample, gain};
+use lv_base::{Fixed, Sample, gain, to_sample};
 
 /// A signal times a factor: each sample exact, rounded down to a part, then clamped.
 pub fn gain_into(x: &[Sample], g: Fixed, out: &mut [Sample])
@@ -36,6 +36,6 @@ fn gain_by_any(x: &[Sample], g: Fixed, out: &mut [Sample])
 fn gain_once(sample: Sample, factor: i32) -> Sample
     ensures { result ≡ gained sample (record { 0 = factor }) }
 {
-    let product = (i64::from(sample.0) * i64::from(factor)) >> 24;
-    Sample(product.clamp(i64::from(i32::MIN), i64::from(i32::MAX)) as i32)
+    let product = i64::from(sample.0) * i64::from(factor);
+    to_sample(Fixed(product >> 24))
 }

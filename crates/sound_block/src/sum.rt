@@ -2,11 +2,11 @@ ghost use Rattle.std.specs.Prelude.{◌≡◌, ℕ, ◌+◌, pos, length, map, r
 ghost use Rattle.lv_base.specs.Number.{clamped};
 ghost use Rattle.sound_block.specs.Block.{added, IsSum, most_signals};
 
-use lv_base::Sample;
+use lv_base::{Fixed, Sample, to_sample};
 
 /// Begins a sum of signals: of none, it is 0 in each frame.
 pub fn clear(acc: &mut [i64])
-    ensures { acc.new ≡ replicate (length acc.old) (pos 0) }
+    ensures sums { acc.new ≡ replicate (length acc.old) (pos 0) }
     ensures count { All (IsSum 0) acc.new }
 {
     acc.fill(0);
@@ -16,7 +16,7 @@ pub fn clear(acc: &mut [i64])
 pub fn add(acc: &mut [i64], x: &[Sample])
     requires whole { length x.now ≡ length acc.old }
     requires few { All (IsSum most_signals) acc.old }
-    ensures { acc.new ≡ added acc.old x.now }
+    ensures sums { acc.new ≡ added acc.old x.now }
     ensures count { (n : ℕ) → All (IsSum n) acc.old → All (IsSum (n + 1)) acc.new }
 {
     for frame in 0..acc.len() {
@@ -30,13 +30,6 @@ pub fn finish(acc: &[i64], out: &mut [Sample])
     ensures { out.new ≡ map clamped acc.now }
 {
     for frame in 0..acc.len() {
-        out[frame] = nearest(acc[frame]);
+        out[frame] = to_sample(Fixed(acc[frame]));
     }
-}
-
-// The sample nearest to a sum.
-fn nearest(sum: i64) -> Sample
-    ensures { result ≡ clamped sum }
-{
-    Sample(sum.clamp(i64::from(i32::MIN), i64::from(i32::MAX)) as i32)
 }

@@ -31,16 +31,17 @@ fn read_few(alloc: Global, bytes: &[u8]) -> Result<Record, RecordFault>
     if MOST_LINES < count {
         return Err(RecordFault::TooMany(count));
     }
-    read_text(alloc, count, bytes)
+    // One more, for the line `end`, which isn't counted.
+    read_text(alloc, count as usize + 1, bytes)
 }
 
-// Reads a text that has so many lines after the first: its entries get room at once.
-fn read_text(alloc: Global, count: u64, bytes: &[u8]) -> Result<Record, RecordFault>
+// Reads a text, with room at once for so many entries.
+fn read_text(alloc: Global, room: usize, bytes: &[u8]) -> Result<Record, RecordFault>
     ensures ok { IfOk result (λ steps. IsFormed steps × (bytes.now ≡ record_text steps)) }
     ensures err { IfErr result (λ fault. SaysOfText fault bytes.now) }
 {
     match bytes.strip_prefix("lv2fx-record 1\n".as_bytes()) {
-        Some(lines) => read_lines(alloc, count, lines),
+        Some(lines) => read_lines(alloc, room, lines),
         None => Err(RecordFault::Syntax(1)),
     }
 }
@@ -63,13 +64,12 @@ fn count_lines(bytes: &[u8]) -> u64
     (feeds + open).saturating_sub(apart)
 }
 
-fn read_lines(alloc: Global, count: u64, lines: &[u8]) -> Result<Record, RecordFault>
+fn read_lines(alloc: Global, room: usize, lines: &[u8]) -> Result<Record, RecordFault>
     ensures ok { IfOk result (λ steps. IsFormed steps × (lines.now ≡ flat_map line_of steps)) }
     ensures err { IfErr result (λ fault. SaysOfLines fault lines.now) }
 {
     let mut scratch = Bytes::new(alloc);
-    // One more, for the line `end`, which isn't counted.
-    let mut steps = Record::with_room(alloc, count as usize + 1)?;
+    let mut steps = Record::with_room(alloc, room)?;
     push_lines(&mut steps, &mut scratch, lines)?;
     Ok(steps)
 }
