@@ -20,7 +20,7 @@ pub fn add(acc: &mut [i64], x: &[Sample])
     ensures count { (n : ℕ) → All (IsSum n) acc.old → All (IsSum (n + 1)) acc.new }
 {
     for frame in 0..acc.len() {
-        acc[frame] += i64::from(x[frame].0);
+        acc[frame] += widened(x[frame]);
     }
 }
 
@@ -32,4 +32,12 @@ pub fn finish(acc: &[i64], out: &mut [Sample])
     for frame in 0..acc.len() {
         out[frame] = to_sample(Fixed(acc[frame]));
     }
+}
+
+// The number of a sample, in a type with room for sums.
+fn widened(sample: Sample) -> i64
+    ensures value { result ≡ sample.0 }
+    ensures one { IsSum 1 result }
+{
+    i64::from(sample.0)
 }
