@@ -2,8 +2,6 @@
 //! time it. It ends with one sample of the result, so that nothing of it can be left out.
 #![tactic(auto)]
 
-ghost use Rattle.std.specs.Prelude.{◌≡◌, length};
-
 use anyhow::{Context, Result, bail};
 use lv_base::{Fixed, Sample};
 use sound_block::{add, clear, finish, gain_into, to_pcm};
@@ -12,6 +10,7 @@ use std::env;
 use std::rt::Env;
 
 const FRAMES: usize = 512;
+
 const TIMES: u32 = 1000;
 
 fn main(rt: HostRuntime) -> Result<()> {
@@ -57,7 +56,7 @@ fn sum(alloc: Global, rounds: u32) -> Result<i32> {
 fn add_often(sums: &mut [i64], signal: &[Sample]) {
     if sums.len() == signal.len() {
         clear(sums);
-        for _ in 0..TIMES {
+        for _time in 0..TIMES {
             add(sums, signal);
         }
     }

@@ -1,4 +1,4 @@
-ghost use Rattle.std.specs.Prelude.{◌≡◌, length, map};
+ghost use Rattle.std.specs.Prelude.{◌≡◌, ◌≤◌, length, map, take, IfSome};
 ghost use Rattle.lv_base.specs.Number.{gained};
 
 use lv_base::{Fixed, Sample, gain, to_sample};
@@ -19,9 +19,40 @@ fn gain_by_small(x: &[Sample], factor: i32, out: &mut [Sample])
     requires { length out.old ≡ length x.now }
     ensures { out.new ≡ map (λ sample. gained sample (record { 0 = factor })) x.now }
 {
-    for frame in 0..x.len() {
-        out[frame] = gain_once(x[frame], factor);
+    let mut done = 0;
+    while done < x.len() {
+        done = gain_within(x, factor, out, done);
+        if done < x.len() {
+            out[done] = gain_once(x[done], factor);
+            done += 1;
+        }
     }
+}
+
+// Goes on from a frame to the first whose product is beyond the greatest or the least sample: a loop that doesn't clamp is faster.
+fn gain_within(x: &[Sample], factor: i32, out: &mut [Sample], from: usize) -> usize
+    requires whole { length out.old ≡ length x.now }
+    requires within { from ≤ length x.now }
+    requires before { take from out.old ≡ map (λ sample. gained sample (record { 0 = factor })) (take from x.now) }
+    ensures more { from ≤ result }
+    ensures end { result ≤ length x.now }
+    ensures samples { take result out.new ≡ map (λ sample. gained sample (record { 0 = factor })) (take result x.now) }
+{
+    for frame in from..x.len() {
+        match product_within(x[frame], factor) {
+            Some(sample) => out[frame] = sample,
+            None => return frame,
+        }
+    }
+    x.len()
+}
+
+// A sample times a factor, where that is a sample.
+fn product_within(sample: Sample, factor: i32) -> Option<Sample>
+    ensures { IfSome result (λ product. product ≡ gained sample (record { 0 = factor })) }
+{
+    let product = i64::from(sample.0) * i64::from(factor);
+    i32::try_from(product >> 24).ok().map(Sample)
 }
 
 fn gain_by_any(x: &[Sample], g: Fixed, out: &mut [Sample])
