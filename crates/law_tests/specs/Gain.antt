@@ -7,7 +7,7 @@ use Rattle.step_law.specs.declared.ring.Ring.TheVariants.{ControlToAudio, Contro
 use Rattle.step_law.specs.Entry.{block_of, done_of, look_of, take_of, send_of, begin_of, end_of, stop_of, beat_of, join, last}
 use Rattle.record_law.specs.declared.shape.Shape.{Shape}
 use Rattle.record_law.specs.declared.shape.Broken.TheVariants.{Syntax, Order, Ring, Look, End}
-use Rattle.law_tests.specs.Case.{Case, breaks, keeps, drop_line, double_line, swap_lines, put_line, shape_of, inst_of}
+use Rattle.record_law.specs.Case.{Case, breaks, keeps, drop_line, double_line, swap_lines, put_line, shape_of, inst_of}
 
 abbrev pub session : Shape
 session = shape_of 2 8 1 (0 ∷ 1 ∷ []) (inst_of 1 false false ∷ inst_of 1 false false ∷ []) ([])

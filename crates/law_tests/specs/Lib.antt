@@ -1,4 +1,3 @@
-pub mod Case
 pub mod Gain
 pub mod NoBlocks
 pub mod Fetch

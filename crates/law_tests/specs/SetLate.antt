@@ -8,7 +8,7 @@ use Rattle.step_law.specs.Entry.{block_of, done_of, look_of, take_of, send_of, b
 use Rattle.record_law.specs.declared.shape.Shape.{Shape}
 use Rattle.record_law.specs.declared.shape.ActionKind.TheVariants as kind
 use Rattle.record_law.specs.declared.shape.Broken.TheVariants.{Syntax, Order, Ring, Look, End}
-use Rattle.law_tests.specs.Case.{Case, breaks, keeps, drop_line, double_line, swap_lines, put_line, shape_of, inst_of, action_of}
+use Rattle.record_law.specs.Case.{Case, breaks, keeps, drop_line, double_line, swap_lines, put_line, shape_of, inst_of, action_of}
 
 abbrev pub session : Shape
 session = shape_of 1 8 1 (0 ∷ []) (inst_of 1 false false ∷ []) (action_of 1 kind.Set 0 ∷ [])

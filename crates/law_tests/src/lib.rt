@@ -3,7 +3,7 @@
 #![tactic(auto)]
 
 ghost use Rattle.record_law.specs.Lawful.{IsLawful};
-ghost use Rattle.law_tests.specs.Case.{Gives};
+ghost use Rattle.record_law.specs.Case.{Gives};
 ghost use Rattle.law_tests.specs.Gain as gain;
 ghost use Rattle.law_tests.specs.NoBlocks as no_blocks;
 ghost use Rattle.law_tests.specs.Fetch as fetch;

@@ -6,3 +6,4 @@ pub mod Classes
 pub mod Pieces
 pub mod Together
 pub mod Tokens
+pub mod Overlaps

@@ -21,3 +21,5 @@ pub mod Verdict
 pub mod Laws
 pub mod Fits
 pub mod Tokens
+pub mod Case
+pub mod Worked

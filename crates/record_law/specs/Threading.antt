@@ -1,6 +1,6 @@
 -- The threading classes (LV2 core, "Threading Classes"; LV2 worker), for `save` and a thread-safe `restore` by this host's own rule that
 -- they may run beside calls of the audio class. These are rules of any record.
-use Rattle.std.specs.Prelude.{◌≡◌, ℕ, Bool, true, ◌&&◌, ◌||◌, List, ◌∷◌, ◌++◌, Contains}
+use Rattle.std.specs.Prelude.{◌≡◌, ℕ, Bool, true, false, ◌&&◌, ◌||◌, List, ◌∷◌, ◌++◌, Contains}
 use Rattle.step_law.specs.declared.actor.Actor.{Actor}
 use Rattle.step_law.specs.declared.actor.Actor.TheVariants.{Control}
 use Rattle.step_law.specs.declared.call.Call.{Call}
@@ -29,3 +29,11 @@ pub record KeepsThreadingClasses (steps : List Entry) : Type 0 where
   pub active : (before after : List Entry) (actor : Actor) (inst : ℕ)
       → steps ≡ before ++ begin_of actor Run inst ∷ after
       → Contains before (end_of Control Activate inst) × (Contains before (begin_of Control Deactivate inst) → ⊥)
+
+-- no call may overlap one of its own class
+abbrev pub NoneOverlapsItsClass : Type 0
+NoneOverlapsItsClass = (call other : Call) → audio_calls call ≡ audio_calls other → may_overlap call other ≡ false
+
+-- what neither audio nor a worker calls overlaps nothing
+abbrev pub InstantiationIsAlone : Type 0
+InstantiationIsAlone = (call other : Call) → audio_calls call ≡ false → worker_calls call ≡ false → (may_overlap call other ≡ false) × (may_overlap other call ≡ false)

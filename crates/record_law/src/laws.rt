@@ -1,3 +1,7 @@
+ghost use Rattle.record_law.specs.Case.{Gives};
+ghost use Rattle.record_law.specs.Lawful.{IsLawful};
+ghost use Rattle.record_law.specs.Worked.{session, steps, cases};
+ghost use Rattle.record_law.specs.Threading.{NoneOverlapsItsClass, InstantiationIsAlone};
 ghost use Rattle.record_law.specs.Tokens.{PartsAreTokens};
 ghost use Rattle.record_law.specs.Fits.{TogetherInOrder, PiecesCompose, PieceHoldsBefore, PieceFits};
 ghost use Rattle.record_law.specs.Laws.{HasSomeVerdict, HasOneViolation, LawfulHasNone, VerdictIsLawful, VerdictIsFirst, PrefixesKeepRules, RulesKeepClasses};
@@ -20,9 +24,11 @@ pub fn prefixes_keep_rules()
     ensures { PrefixesKeepRules }
 {}
 
-/// A record that keeps the rules keeps LV2's threading classes.
+/// A record that keeps the rules keeps LV2's threading classes, by which no call overlaps one of its class, nor an instantiation call any.
 pub fn keeps_threading_classes()
-    ensures { RulesKeepClasses }
+    ensures kept { RulesKeepClasses }
+    ensures apart { NoneOverlapsItsClass }
+    ensures alone { InstantiationIsAlone }
 {}
 
 /// Pieces of what an actor does compose, hold whatever it has to do later, and go on from what it did.
@@ -40,4 +46,10 @@ pub fn together_in_order()
 /// Until control has all parts, a part that has an owner is in no message, and one that has none is in one.
 pub fn parts_are_tokens()
     ensures { PartsAreTokens }
+{}
+
+/// A worked record is lawful, and copies of it that are altered have the first violation that the rules give by hand.
+pub fn worked_record()
+    ensures lawful { IsLawful session steps }
+    ensures copies { Gives session steps cases }
 {}
