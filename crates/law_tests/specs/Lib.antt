@@ -1,0 +1,10 @@
+pub mod Gain
+pub mod NoBlocks
+pub mod Fetch
+pub mod Burst
+pub mod Keep
+pub mod Tank
+pub mod Patch
+pub mod OneCell
+pub mod KeepLate
+pub mod SetLate

@@ -1,0 +1,9 @@
+pub mod Splits
+pub mod Verdicts
+pub mod Prefixes
+pub mod Same
+pub mod Classes
+pub mod Pieces
+pub mod Together
+pub mod Tokens
+pub mod Overlaps
