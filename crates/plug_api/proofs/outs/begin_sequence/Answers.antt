@@ -1,0 +1,12 @@
+-- The sequence is opened in the emptied forge, where it has room for one.
+use Rattle.std.proofs.Common.{subst}
+use Rattle.atom_forge.specs.declared.level.Holds.TheVariants.{Events}
+use Rattle.atom_forge.specs.Forged.{Puts, opening, with_container}
+use Rattle.plug_api.proofs.Begun.{begun_by}
+use Rattle.plug_api.proofs.outs.begin_sequence.Goals as goal
+
+pub returns : goal.returns
+returns c =
+    begun_by c.args.forge.now c.sequence.new.self c.sequence.result
+    (subst (λ f. Puts f (opening 10 0 0) (with_container f Events (opening 10 0 0)) c.sequence.result c.sequence.new.self) c.clear.ensures
+    c.sequence.ensures)

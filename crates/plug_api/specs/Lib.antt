@@ -1,0 +1,13 @@
+pub mod Buffers
+pub mod Calls
+pub mod Chains
+pub mod Fresh
+pub mod Inputs
+pub mod Lending
+pub mod Meaning
+pub mod Ports
+pub mod Roles
+pub mod Running
+pub mod Sequences
+pub mod Signal
+pub mod Sound
