@@ -34,6 +34,14 @@ impl<'a> Events<'a> {
     {
         Events { rest: bytes }
     }
+
+    /// The bytes of the events that are left.
+    pub fn bytes(&self) -> &'a [u8]
+        ensures value { result.now ≡ self.now }
+        ensures spelled { ∥ AreEvents result.now ∥₁ }
+    {
+        self.rest
+    }
 }
 
 /// The first of some events, and the bytes of the others.

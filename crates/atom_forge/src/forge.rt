@@ -1,4 +1,4 @@
-ghost use Rattle.std.specs.Prelude.{◌≡◌, ◌-◌, ◌++◌, [], false, true, length, IfOk};
+ghost use Rattle.std.specs.Prelude.{◌≡◌, ◌-◌, ◌^◌, ◌<◌, ◌++◌, [], false, true, length, IfOk};
 ghost use Rattle.atom_core.specs.Value.{int, long, fixed, urid, string, plain, keyed, timed, object, sequence};
 ghost use Rattle.atom_core.specs.Spelling.{lead_bytes};
 ghost use Rattle.atom_core.specs.Fits.{IsText};
@@ -256,6 +256,7 @@ impl Forge {
         ensures waits { result.waits ≡ self.now.waits }
         ensures here { up_to result self.now ≡ self.now }
         ensures forged { IsForged self.now }
+        ensures small { self.now.room < 2 ^ 32 }
     {
         Mark {
             len: self.bytes.len(),

@@ -1,0 +1,9 @@
+pub mod Times
+pub mod Orders
+pub mod Stable
+pub mod Picks
+pub mod Merging
+pub mod Holding
+pub mod Putting
+pub mod Earliest
+pub mod Unique

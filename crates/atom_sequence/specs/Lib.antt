@@ -1,0 +1,6 @@
+pub mod Event
+pub mod Merge
+pub mod Views
+pub mod Laws
+pub mod Cursors
+pub mod Inside
