@@ -4,6 +4,8 @@ use Rattle.std.specs.Str.{bytes_eq}
 use Rattle.triple_store.specs.declared.term.Term.{Term}
 use Rattle.triple_store.specs.declared.term.Term.TheVariants.{Iri, Blank, Literal}
 use Rattle.triple_store.specs.declared.term.Triple.{Triple}
+use Rattle.vocabulary.specs.Words.{iri_of}
+use Rattle.vocabulary.specs.declared.word.Word.TheVariants.{XsdString}
 use Rattle.triple_list.specs.Escapes.{escaped}
 
 -- an IRI in angle brackets
@@ -14,12 +16,9 @@ iri_text iri = codes "<" ++ (iri ++ codes ">")
 abbrev pub blank_text : ℕ → List ℕ
 blank_text number = codes "_:" ++ decimal number
 
-abbrev pub xsd_string : List ℕ
-xsd_string = codes "http://www.w3.org/2001/XMLSchema#string"
-
--- a literal without a tag has its datatype behind it, unless that is xsd:string
+-- a literal without a tag has its datatype after it, unless that is xsd:string
 abbrev pub datatype_text : List ℕ → List ℕ
-datatype_text datatype = if bytes_eq datatype xsd_string then [] else codes "^^" ++ iri_text datatype
+datatype_text datatype = if bytes_eq datatype (iri_of XsdString) then [] else codes "^^" ++ iri_text datatype
 
 -- a literal with a tag has that alone
 abbrev pub kind_text : List ℕ → List ℕ → List ℕ

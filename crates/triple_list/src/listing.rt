@@ -7,8 +7,8 @@ use triple_store::Triple;
 
 /// Adds a line for each triple, its terms with a space between, and then the line `triples N`.
 ///
-/// An IRI stands in angle brackets, a blank node as `_:` with its number, a literal in quotes, with its language tag behind an `@`,
-/// or else its datatype behind `^^` unless it is xsd:string. In a literal the backslash, the quote, the line feed, the carriage return
+/// An IRI stands in angle brackets, a blank node as `_:` with its number, a literal in quotes, with its language tag after an `@`,
+/// or else its datatype after `^^` unless it is xsd:string. In a literal the backslash, the quote, the line feed, the carriage return
 /// and the tab are written as `\\`, `\"`, `\n`, `\r` and `\t` (Turtle 1.1, section 6.4), and all else as it is.
 ///
 /// The time is in proportion to the bytes. After a refusal `into` may hold a part of the listing.

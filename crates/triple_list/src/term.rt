@@ -4,9 +4,7 @@ ghost use Rattle.triple_list.specs.Listing.{iri_text, blank_text, datatype_text,
 use crate::escape::push_escaped;
 use lv_base::{Bytes, NoMemory, Text};
 use triple_store::Term;
-
-/// The datatype of a literal that is written alone (RDF 1.1, section 3.3).
-const STRING: &str = "http://www.w3.org/2001/XMLSchema#string";
+use vocabulary::Word;
 
 /// Adds a term as `push_listing` writes it. After a refusal `into` may hold a part of the term.
 pub fn push_term(into: &mut Bytes, term: &Term) -> Result<(), NoMemory>
@@ -47,7 +45,7 @@ fn push_literal(into: &mut Bytes, text: &Text, datatype: &Text, lang: &Text) -> 
     push_kind(into, datatype, lang)
 }
 
-// What stands behind a literal's text.
+// What stands after a literal's text.
 fn push_kind(into: &mut Bytes, datatype: &Text, lang: &Text) -> Result<(), NoMemory>
     ensures { OnOk result (into.new ≡ into.old ++ kind_text datatype.now lang.now) }
 {
@@ -61,7 +59,7 @@ fn push_kind(into: &mut Bytes, datatype: &Text, lang: &Text) -> Result<(), NoMem
 fn push_datatype(into: &mut Bytes, datatype: &Text) -> Result<(), NoMemory>
     ensures { OnOk result (into.new ≡ into.old ++ datatype_text datatype.now) }
 {
-    if datatype.as_str() == STRING {
+    if datatype.as_str() == Word::XsdString.iri() {
         return Ok(());
     }
     into.push_str("^^")?;

@@ -4,9 +4,10 @@ use Rattle.std.specs.List.{list_any}
 use Rattle.std.specs.Str.{bytes_eq}
 use Rattle.std.proofs.lemmas.Bool.{eq-eqb}
 use Rattle.std.proofs.lemmas.Slice.Eq.{bytes_eq-Decides}
-use Rattle.std.specs.Borrow.{Bor}
 use Rattle.urid_map.specs.Numbers.{with_uri, with_uris}
 use Rattle.urid_map.specs.Table.{initial}
+use Rattle.vocabulary.specs.Words.{iri_of}
+use Rattle.vocabulary.specs.declared.word.Word.{Word}
 
 abbrev pub value : List ℕ → ℕ
 value uri = fold (λ n c. n * 256 + c) 0 uri
@@ -56,15 +57,16 @@ unfolding with_uris
 added_to_none uris h = added [] uris h
 
 initial_new : all_new [] (map value initial) ≡ true
+unfolding iri_of
 initial_new = refl
 
 -- those of the table
 pub initial_added : with_uris [] initial ≡ initial
 initial_added = added_to_none initial initial_new
 
--- what a loop over references to texts does
-pub mapped_in_turn : (urids : List (List ℕ)) (uris : List (Bor (List ℕ)))
-    → fold (λ held uri. with_uri held uri.now) urids uris ≡ with_uris urids (map (λ uri. uri.now) uris)
+-- what a loop over words does
+pub mapped_in_turn : (urids : List (List ℕ)) (words : List Word)
+    → fold (λ held word. with_uri held (iri_of word)) urids words ≡ with_uris urids (map iri_of words)
 unfolding with_uris
 mapped_in_turn urids [] = refl
-mapped_in_turn urids (x ∷ xs) = mapped_in_turn (with_uri urids x.now) xs
+mapped_in_turn urids (word ∷ words) = mapped_in_turn (with_uri urids (iri_of word)) words

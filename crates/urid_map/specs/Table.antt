@@ -1,32 +1,38 @@
 -- The URIs that are held from the start.
-use Rattle.std.specs.Prelude.{ℕ, List, [], ◌∷◌, codes}
+use Rattle.std.specs.Prelude.{ℕ, List, [], ◌∷◌, map}
+use Rattle.vocabulary.specs.Words.{iri_of}
+use Rattle.vocabulary.specs.declared.word.Word.{Word}
+use Rattle.vocabulary.specs.declared.word.Word.TheVariants.{AtomInt, AtomLong, AtomBool, AtomUrid, AtomString, AtomLiteral, AtomVector, AtomTuple, AtomObject, AtomSequence, AtomChunk, AtomFloat, AtomDouble, FxFixed, PatchGet, PatchSet, PatchPut, PatchProperty, PatchValue, PatchSubject, PatchBody, BufszMaxBlockLength, BufszMinBlockLength, AtomUri, AtomPath}
 
 -- numbers 1 to 25: the kinds of atoms, the words of patch messages, and the options of block lengths
-abbrev pub initial : List (List ℕ)
-initial =
-    codes "http://lv2plug.in/ns/ext/atom#Int"
-    ∷ codes "http://lv2plug.in/ns/ext/atom#Long"
-    ∷ codes "http://lv2plug.in/ns/ext/atom#Bool"
-    ∷ codes "http://lv2plug.in/ns/ext/atom#URID"
-    ∷ codes "http://lv2plug.in/ns/ext/atom#String"
-    ∷ codes "http://lv2plug.in/ns/ext/atom#Literal"
-    ∷ codes "http://lv2plug.in/ns/ext/atom#Vector"
-    ∷ codes "http://lv2plug.in/ns/ext/atom#Tuple"
-    ∷ codes "http://lv2plug.in/ns/ext/atom#Object"
-    ∷ codes "http://lv2plug.in/ns/ext/atom#Sequence"
-    ∷ codes "http://lv2plug.in/ns/ext/atom#Chunk"
-    ∷ codes "http://lv2plug.in/ns/ext/atom#Float"
-    ∷ codes "http://lv2plug.in/ns/ext/atom#Double"
-    ∷ codes "urn:lv2fx:Fixed"
-    ∷ codes "http://lv2plug.in/ns/ext/patch#Get"
-    ∷ codes "http://lv2plug.in/ns/ext/patch#Set"
-    ∷ codes "http://lv2plug.in/ns/ext/patch#Put"
-    ∷ codes "http://lv2plug.in/ns/ext/patch#property"
-    ∷ codes "http://lv2plug.in/ns/ext/patch#value"
-    ∷ codes "http://lv2plug.in/ns/ext/patch#subject"
-    ∷ codes "http://lv2plug.in/ns/ext/patch#body"
-    ∷ codes "http://lv2plug.in/ns/ext/buf-size#maxBlockLength"
-    ∷ codes "http://lv2plug.in/ns/ext/buf-size#minBlockLength"
-    ∷ codes "http://lv2plug.in/ns/ext/atom#URI"
-    ∷ codes "http://lv2plug.in/ns/ext/atom#Path"
+abbrev pub initial_words : List Word
+initial_words =
+    AtomInt
+    ∷ AtomLong
+    ∷ AtomBool
+    ∷ AtomUrid
+    ∷ AtomString
+    ∷ AtomLiteral
+    ∷ AtomVector
+    ∷ AtomTuple
+    ∷ AtomObject
+    ∷ AtomSequence
+    ∷ AtomChunk
+    ∷ AtomFloat
+    ∷ AtomDouble
+    ∷ FxFixed
+    ∷ PatchGet
+    ∷ PatchSet
+    ∷ PatchPut
+    ∷ PatchProperty
+    ∷ PatchValue
+    ∷ PatchSubject
+    ∷ PatchBody
+    ∷ BufszMaxBlockLength
+    ∷ BufszMinBlockLength
+    ∷ AtomUri
+    ∷ AtomPath
     ∷ []
+
+abbrev pub initial : List (List ℕ)
+initial = map iri_of initial_words

@@ -4,6 +4,7 @@ ghost use Rattle.std.specs.Option.{option_copied};
 ghost use Rattle.iri_resolve.specs.Iri as iri;
 ghost use Rattle.urid_map.specs.Numbers.{holds, number_of, with_uri, with_uris, uri_of, AreNumbered, AreKept};
 ghost use Rattle.urid_map.specs.Table.{initial};
+ghost use Rattle.vocabulary.specs.Words.{iri_of};
 
 use crate::UridFault;
 use crate::table::INITIAL;
@@ -12,6 +13,7 @@ use lv_base::{NoMemory, Text};
 use seeded_hash::SeededHash;
 use std::alloc::Global;
 use std::marker::Model;
+use vocabulary::Word;
 
 /// The most URIs that have numbers: 2^20.
 pub const MOST_URIDS: usize = 1 << 20;
@@ -49,7 +51,7 @@ impl Urids {
     }
 
     /// The same, with a seed for its hashes.
-    #[tactic(auto, unfolding(turtle_grammar::specs::Characters::is_excluded))]
+    #[tactic(auto, unfolding(turtle_grammar::specs::Characters::is_excluded, vocabulary::specs::Words::iri_of))]
     pub fn with_seed(alloc: Global, seed: u128) -> Result<Self, NoMemory>
         ensures { IfOk result (λ urids. urids ≡ initial) }
     {
@@ -87,14 +89,14 @@ impl Urids {
         Ok(self.insert(uri)?)
     }
 
-    // Maps each of these URIs in turn.
-    fn insert_all(&mut self, alloc: Global, uris: &[&str]) -> Result<(), NoMemory>
-        requires iri { list_all (λ uri. iri.is_iri_text uri.now) uris.now ≡ true }
-        requires room { length self.old + length uris.now ≤ 2 ^ 20 }
-        ensures { OnOk result (self.new ≡ with_uris self.old (map (λ uri. uri.now) uris.now)) }
+    // Maps the IRI of each of these words in turn.
+    fn insert_all(&mut self, alloc: Global, words: &[Word]) -> Result<(), NoMemory>
+        requires iri { list_all (λ word. iri.is_iri_text (iri_of word)) words.now ≡ true }
+        requires room { length self.old + length words.now ≤ 2 ^ 20 }
+        ensures { OnOk result (self.new ≡ with_uris self.old (map iri_of words.now)) }
     {
-        for uri in uris {
-            self.insert(&Text::from_str(alloc, uri)?)?;
+        for word in words {
+            self.insert(&Text::from_str(alloc, word.iri())?)?;
         }
         Ok(())
     }
