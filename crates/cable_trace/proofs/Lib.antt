@@ -1,14 +1,14 @@
-mod Below
-mod Orders
-mod Tells
-mod Above
-mod SenderKeeps
-mod TakerKeeps
-mod Elsewhere
-mod Counted
-mod MergedKeeps
-mod BeatKeeps
-mod MergedBeatKeeps
-mod Filtered
-mod MergeOfLogs
-mod LogGrows
+pub mod Below
+pub mod Orders
+pub mod Tells
+pub mod Above
+pub mod SenderKeeps
+pub mod TakerKeeps
+pub mod Elsewhere
+pub mod Counted
+pub mod MergedKeeps
+pub mod BeatKeeps
+pub mod MergedBeatKeeps
+pub mod Filtered
+pub mod MergeOfLogs
+pub mod LogGrows

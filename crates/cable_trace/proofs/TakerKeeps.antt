@@ -20,7 +20,7 @@ order_at cells {drawn} {sends} {refusals} {d} {e} {l} {m} {s} {t} x y z o =
     subst (λ q. InOrder cells drawn sends refusals e m q) z (subst (λ q. InOrder cells drawn sends refusals e q s) y (subst (λ q. InOrder cells drawn sends refusals q l s) x o))
 
 -- how long a list that begins another is
-begins-le : {M : Type 0} (first whole : List M) → Begins first whole → length first ≤ length whole
+pub begins-le : {M : Type 0} (first whole : List M) → Begins first whole → length first ≤ length whole
 begins-le first whole b = subst (λ l. length first ≤ length l) (sym b.is) (omega (arith, length-append first b.rest))
 
 -- a list begins itself

@@ -1,0 +1,16 @@
+pub mod Put
+pub mod CellSteps
+pub mod RingSteps
+pub mod TicketSteps
+pub mod SeatSteps
+pub mod Aside
+pub mod CableSteps
+pub mod Allowed
+pub mod AllowedOnRings
+pub mod AtSeat
+pub mod AllowedAtBeat
+pub mod AfterCall
+pub mod Counting
+pub mod Opening
+pub mod Beginning
+pub mod Chains

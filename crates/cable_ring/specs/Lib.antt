@@ -1,0 +1,10 @@
+pub mod Seats
+pub mod Cells
+pub mod Drawn
+pub mod Rule
+pub mod Steps
+pub mod Passes
+pub mod Held
+pub mod Planned
+pub mod Tables
+pub mod Opened

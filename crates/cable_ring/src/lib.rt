@@ -1,0 +1,15 @@
+//! All rings of a run, over one table of atomic words and cells: what each actor did there is one trace, and the rule of the table says how
+//! the words, the cells and all traces fit together at any moment, whatever the order in which threads take their steps.
+#![tactic(auto)]
+
+mod actor;
+mod cable;
+mod calls;
+mod pass;
+mod plays;
+mod view;
+
+pub use cable::{Cable, Layout, Wiring};
+pub use calls::Full;
+pub use pass::{Count, Pass};
+pub use view::{Acting, Plan, RingSpec, View};
