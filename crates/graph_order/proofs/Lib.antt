@@ -1,0 +1,10 @@
+pub mod Feeding
+pub mod Reaching
+pub mod Shortening
+pub mod Stuck
+pub mod Growing
+pub mod Rows
+pub mod Least
+pub mod Laws
+pub mod Answers
+pub mod SomeAnswer
