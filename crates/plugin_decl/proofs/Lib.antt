@@ -1,4 +1,5 @@
 pub mod Rows
+pub mod PortFacts
 pub mod Places
 pub mod Order
 pub mod Checking

@@ -1,33 +1,44 @@
 -- What the rules on ports, features and options test.
-use Rattle.std.proofs.Common.{◌≡◌, ℕ, ◌<◌, ◌≤◌, Bool, true, false, List, length, take, get_or, Some, refl, sym, ◌∙◌, ap, ⊎_elim, arith}
+use Rattle.std.proofs.Common.{◌≡◌, ℕ, zero, suc, ◌<◌, ◌≤◌, Bool, true, false, List, [], ◌∷◌, map, length, take, get_or, Some, refl, sym, ◌∙◌, ap, ⊎_elim, arith}
 use Rattle.std.proofs.lemmas.Bool.{cases_lt}
 use Rattle.std.specs.Prelude.{not, find}
 use Rattle.std.specs.List.{list_any}
 use Rattle.triple_store.specs.declared.term.Term.{Term}
 use Rattle.triple_store.specs.declared.term.Triple.{Triple}
+use Rattle.plugin_decl.specs.declared.breaches.Breaches.{Breaches}
 use Rattle.plugin_decl.specs.declared.declaration.Port.{Port}
 use Rattle.plugin_decl.specs.declared.port_rules.PortRule.{PortRule}
 use Rattle.plugin_decl.specs.declared.port_rules.PortRule.TheVariants.{Symbol, Name, Direction, OneDirection, Class, Value}
 use Rattle.plugin_decl.specs.declared.vocabulary.Word.TheVariants.{Lv2Plugin, Lv2RequiredFeature, OptionsRequiredOption}
 use Rattle.plugin_decl.specs.Objects.{objects_of, is_a}
+use Rattle.plugin_decl.specs.PortFacts.{breaches_of}
 use Rattle.plugin_decl.specs.Declaration.{ports_of, declared_ports}
 use Rattle.plugin_decl.specs.Features.{is_supported, is_given}
-use Rattle.plugin_decl.specs.PortRules.{lacks_symbol, lacks_name, lacks_direction, has_two_directions, lacks_class, has_bad_value}
 use Rattle.plugin_decl.specs.Rules.{Rule, number, passes_at, has_symbol_of, repeats_symbol, breaks, AreKeptBelow, IsFirst, IsFirstAmong, IsFirstBroken}
 use Rattle.plugin_decl.specs.Rules.Rule.{no_plugin, same_symbol, feature, required_option}
-use Rattle.plugin_decl.specs.Checks.{rule_of, is_broken_at, fault_of}
+use Rattle.plugin_decl.specs.Checks.{rule_of, is_broken_in, fault_of}
 use Rattle.plugin_decl.proofs.Checking.{IsTest, broken-first, kept-first}
 use Rattle.plugin_decl.proofs.Places.{find-some, passes-within, passes-past}
 
--- a rule on one port, where the code has these ports in order
-pub test-port : (rows : List Triple) (plugin : Term) (block : ℕ) (rule : PortRule) (ports : List Term) → ports ≡ ports_of rows plugin → IsTest rows plugin block (rule_of rule) (passes_at (is_broken_at rule rows) ports)
+-- a test of what is said of each item
+passes-map : {X Y : Type 0} (f : X → Y) (passes : Y → Bool) (xs : List X) (i : ℕ) → passes_at passes (map f xs) i ≡ passes_at (λ x. passes (f x)) xs i
+passes-map f passes [] i = refl
+passes-map f passes (x ∷ xs) zero = refl
+passes-map f passes (x ∷ xs) (suc i) = passes-map f passes xs i
+
+-- a rule on one port, where the code has these breaches of the ports in order
+at-ports : (rows : List Triple) (ports : List Term) (breaches : List Breaches) (passes : Breaches → Bool) (i : ℕ) → breaches ≡ map (breaches_of rows) ports
+    → passes_at (λ port. passes (breaches_of rows port)) ports i ≡ passes_at passes breaches i
+at-ports rows ports breaches passes i e = sym (ap (λ bs. passes_at passes bs i) e ∙ passes-map (breaches_of rows) passes ports i)
+
+pub test-port : (rows : List Triple) (plugin : Term) (block : ℕ) (rule : PortRule) (breaches : List Breaches) → breaches ≡ map (breaches_of rows) (ports_of rows plugin) → IsTest rows plugin block (rule_of rule) (passes_at (is_broken_in rule) breaches)
 unfolding breaks
-test-port rows plugin block Symbol ports e = record { same = λ i. ap (λ xs. passes_at (lacks_symbol rows) xs i) (sym e) }
-test-port rows plugin block Name ports e = record { same = λ i. ap (λ xs. passes_at (lacks_name rows) xs i) (sym e) }
-test-port rows plugin block Direction ports e = record { same = λ i. ap (λ xs. passes_at (lacks_direction rows) xs i) (sym e) }
-test-port rows plugin block OneDirection ports e = record { same = λ i. ap (λ xs. passes_at (has_two_directions rows) xs i) (sym e) }
-test-port rows plugin block Class ports e = record { same = λ i. ap (λ xs. passes_at (lacks_class rows) xs i) (sym e) }
-test-port rows plugin block Value ports e = record { same = λ i. ap (λ xs. passes_at (has_bad_value rows) xs i) (sym e) }
+test-port rows plugin block Symbol breaches e = record { same = λ i. at-ports rows (ports_of rows plugin) breaches (is_broken_in Symbol) i e }
+test-port rows plugin block Name breaches e = record { same = λ i. at-ports rows (ports_of rows plugin) breaches (is_broken_in Name) i e }
+test-port rows plugin block Direction breaches e = record { same = λ i. at-ports rows (ports_of rows plugin) breaches (is_broken_in Direction) i e }
+test-port rows plugin block OneDirection breaches e = record { same = λ i. at-ports rows (ports_of rows plugin) breaches (is_broken_in OneDirection) i e }
+test-port rows plugin block Class breaches e = record { same = λ i. at-ports rows (ports_of rows plugin) breaches (is_broken_in Class) i e }
+test-port rows plugin block Value breaches e = record { same = λ i. at-ports rows (ports_of rows plugin) breaches (is_broken_in Value) i e }
 
 -- the fault that is answered is that of the rule
 pub fault-port : (rows : List Triple) (plugin : Term) (block : ℕ) (rule : PortRule) (i : ℕ) → IsFirst rows plugin block (rule_of rule) i → IsFirstBroken rows plugin block (fault_of rule i)

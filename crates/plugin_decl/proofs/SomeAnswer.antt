@@ -1,5 +1,5 @@
 -- The triples of a plug-in have an answer: each rule is kept, or there is a first place where it is broken.
-use Rattle.std.proofs.Common.{◌≡◌, ◌⊎◌, ℕ, zero, suc, ◌+◌, ◌<◌, ◌≤◌, Bool, true, false, List, length, count_by, Option, None, Some, refl, sym, ◌∙◌, ap, ⊎_elim, inl, inr, arith}
+use Rattle.std.proofs.Common.{◌≡◌, ◌⊎◌, ℕ, zero, suc, ◌+◌, ◌<◌, ◌≤◌, Bool, true, false, List, map, length, count_by, Option, None, Some, refl, sym, ◌∙◌, ap, ⊎_elim, inl, inr, arith}
 use Rattle.std.specs.Prelude.{slice_get, position, not, is_none, nat_lt, ◌&&◌}
 use Rattle.std.specs.List.{list_any}
 use Rattle.std.specs.Option.{option_map_or}
@@ -16,7 +16,8 @@ use Rattle.plugin_decl.specs.Declaration.{indexes_of, is_index, ports_of, declar
 use Rattle.plugin_decl.specs.Features.{is_supported, is_given}
 use Rattle.plugin_decl.specs.Rules.{Rule, number, passes_at, repeats_symbol, AreKeptBelow, AreAllKept, IsFirst, IsFirstBroken}
 use Rattle.plugin_decl.specs.Rules.Rule.{no_plugin, bad_index, same_index, gap, same_symbol, feature, required_option}
-use Rattle.plugin_decl.specs.Checks.{IsFirstPlace, rule_of, is_broken_at, fault_of}
+use Rattle.plugin_decl.specs.PortFacts.{breaches_of}
+use Rattle.plugin_decl.specs.Checks.{IsFirstPlace, rule_of, is_broken_in, fault_of}
 use Rattle.plugin_decl.proofs.Checking.{IsTest, broken-first, kept-first}
 use Rattle.plugin_decl.proofs.IndexRules.{test-bad_index, test-same_index, test-gap, AreIndexes-of, never-repeated}
 use Rattle.plugin_decl.proofs.Order.{kept-all}
@@ -124,8 +125,9 @@ same_symbol-step rows plugin block =
 -- a rule on one port
 port-step : (rows : List Triple) (plugin : Term) (block : ℕ) (rule : PortRule) → IsAnswered rows plugin block (number (rule_of rule)) → IsAnswered rows plugin block (number (rule_of rule) + 1)
 port-step rows plugin block rule =
-    step rows plugin block (rule_of rule) (passes_at (is_broken_at rule rows) (ports_of rows plugin)) (test-port rows plugin block rule (ports_of rows plugin) refl)
-    (first-passing (is_broken_at rule rows) (ports_of rows plugin))
+    let breaches = map (breaches_of rows) (ports_of rows plugin) in
+    step rows plugin block (rule_of rule) (passes_at (is_broken_in rule) breaches) (test-port rows plugin block rule breaches refl)
+    (first-passing (is_broken_in rule) breaches)
     (λ at first. (fault_of rule at, fault-port rows plugin block rule at first))
 
 -- the term at a place that passes

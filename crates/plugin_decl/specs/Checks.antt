@@ -3,11 +3,11 @@ use Rattle.std.specs.Prelude.{◌≡◌, ℕ, ◌<◌, Bool, true, false, List, 
 use Rattle.std.specs.List.{AllByRecursion}
 use Rattle.triple_store.specs.declared.term.Term.{Term}
 use Rattle.triple_store.specs.declared.term.Triple.{Triple}
+use Rattle.plugin_decl.specs.declared.breaches.Breaches.{Breaches}
 use Rattle.plugin_decl.specs.declared.declaration.DeclFault.{DeclFault}
 use Rattle.plugin_decl.specs.declared.declaration.DeclFault.TheVariants.{BadSymbol, NoName, NoDirection, TwoDirections, PortClass, BadValue}
 use Rattle.plugin_decl.specs.declared.port_rules.PortRule.{PortRule}
 use Rattle.plugin_decl.specs.declared.port_rules.PortRule.TheVariants.{Symbol, Name, Direction, OneDirection, Class, Value}
-use Rattle.plugin_decl.specs.PortRules.{lacks_symbol, lacks_name, lacks_direction, has_two_directions, lacks_class, has_bad_value}
 use Rattle.plugin_decl.specs.Rules.Rule.{bad_symbol, no_name, no_direction, two_directions, port_class, bad_value}
 use Rattle.plugin_decl.specs.Rules.{Rule, AreKeptBelow, IsCause}
 
@@ -34,13 +34,14 @@ rule_of OneDirection = two_directions
 rule_of Class = port_class
 rule_of Value = bad_value
 
-abbrev pub is_broken_at : PortRule → List Triple → Term → Bool
-is_broken_at Symbol rows port = lacks_symbol rows port
-is_broken_at Name rows port = lacks_name rows port
-is_broken_at Direction rows port = lacks_direction rows port
-is_broken_at OneDirection rows port = has_two_directions rows port
-is_broken_at Class rows port = lacks_class rows port
-is_broken_at Value rows port = has_bad_value rows port
+-- a port's breaches have this rule
+abbrev pub is_broken_in : PortRule → Breaches → Bool
+is_broken_in Symbol breaches = breaches.symbol
+is_broken_in Name breaches = breaches.name
+is_broken_in Direction breaches = breaches.direction
+is_broken_in OneDirection breaches = breaches.one_direction
+is_broken_in Class breaches = breaches.class
+is_broken_in Value breaches = breaches.value
 
 abbrev pub fault_of : PortRule → ℕ → DeclFault
 fault_of Symbol i = BadSymbol i

@@ -5,6 +5,7 @@ pub mod Ports
 pub mod Declaration
 pub mod Features
 pub mod PortRules
+pub mod PortFacts
 pub mod Rules
 pub mod Checks
 pub mod Valid

@@ -1,15 +1,18 @@
 //! What a bundle's triples declare of an LV2 plug-in: its ports, features and properties, or the first rule that they break.
 #![tactic(auto)]
 
+mod breaches;
 mod checks;
 mod declaration;
 mod features;
+mod first_two;
 mod indexes;
 mod message_ports;
 mod objects;
 mod options;
 mod plugin;
 mod port;
+mod port_facts;
 mod port_rules;
 mod reader;
 mod values;

@@ -1,14 +1,19 @@
 ghost use Rattle.std.specs.Prelude.{◌≡◌, ◌≤◌, IfOk, IfSome, unwrap_or, []};
-ghost use Rattle.std.specs.Option.{option_copied};
-ghost use Rattle.plugin_decl.specs.Ports.{index_of, symbol_of, kind_of, is_optional, value_at, first_value, stated_size, asked_size, room_by, port_of};
+ghost use Rattle.std.specs.Option.{option_copied, option_and_then};
+ghost use Rattle.plugin_decl.specs.Objects.{first, only};
+ghost use Rattle.plugin_decl.specs.Ports.{index_of, room_by};
+ghost use Rattle.plugin_decl.specs.PortFacts.{two_of, symbol_by, name_by, kind_by, value_by, first_value_by, asked_by, port_by};
+ghost use Rattle.plugin_decl.specs.Values.{natural_in};
 
 use crate::declaration::{Port, PortKind};
-use crate::objects::{first, has, is_a, only};
-use crate::values::{name, natural, text, value};
-use crate::vocabulary::Word;
+use crate::first_two::FirstTwo;
+use crate::objects::only;
+use crate::port_facts::{Bounds, Classes, PortFacts, PortName};
+use crate::values::{natural, text, value};
 use lv_base::{Fixed, NoMemory, Text};
 use std::alloc::Global;
 use triple_store::{Store, Term};
+use crate::vocabulary::Word;
 
 /// The greatest index of a port.
 const MOST_INDEX: u32 = 255;
@@ -25,76 +30,33 @@ pub(crate) fn index(store: &Store, port: &Term) -> Option<u32>
     natural(MOST_INDEX, only(store, port, Word::Lv2Index)?)
 }
 
-/// The text of its only `lv2:symbol`.
-#[tactic(auto, unfolding(crate::specs::Ports::symbol_of))]
-pub(crate) fn symbol<'a>(store: &'a Store, port: &'a Term) -> Option<&'a Text>
-    ensures { option_copied result ≡ symbol_of store.now port.now }
+/// The same, of the first two objects.
+fn only_index(index: FirstTwo<'_>) -> Option<u32>
+    ensures { result ≡ option_and_then (natural_in 255) (only (two_of index.entry)) }
 {
-    text(only(store, port, Word::Lv2Symbol)?)
+    natural(MOST_INDEX, index.only()?)
 }
 
-/// The first of the four classes.
-#[tactic(auto, unfolding(crate::specs::Ports::kind_of))]
-pub(crate) fn kind(store: &Store, port: &Term) -> PortKind
-    ensures { result ≡ kind_of store.now port.now }
+/// The value of the first object.
+pub(crate) fn first_value(objects: FirstTwo<'_>) -> Option<Fixed>
+    ensures { result ≡ value_by objects.entry }
 {
-    if is_a(store, port, Word::Lv2AudioPort) {
-        PortKind::Audio
-    } else if is_a(store, port, Word::Lv2CvPort) {
-        PortKind::Cv
-    } else if is_a(store, port, Word::Lv2ControlPort) {
-        PortKind::Control
-    } else if is_a(store, port, Word::AtomAtomPort) {
-        PortKind::Atom
-    } else {
-        PortKind::Unsupported
-    }
+    value(objects.first()?)
 }
 
-/// Whether it may be left unconnected.
-pub(crate) fn is_optional(store: &Store, port: &Term) -> bool
-    ensures { result ≡ is_optional store.now port.now }
-{
-    has(
-        store,
-        port,
-        Word::Lv2PortProperty,
-        Word::Lv2ConnectionOptional,
-    )
-}
-
-/// The value of the first `lv2:default`, `lv2:minimum` or `lv2:maximum`.
-#[tactic(auto, unfolding(crate::specs::Ports::value_at))]
-pub(crate) fn value_at(store: &Store, port: &Term, bound: Word) -> Option<Fixed>
-    ensures { result ≡ value_at store.now port.now bound }
-{
-    value(first(store, port, bound)?)
-}
-
-/// The default, else the minimum, else 0.
-#[tactic(auto, unfolding(crate::specs::Ports::first_value))]
-fn first_value(store: &Store, port: &Term) -> Fixed
-    ensures { result ≡ first_value store.now port.now }
-{
-    let least = value_at(store, port, Word::Lv2Minimum).unwrap_or(Fixed(0));
-    value_at(store, port, Word::Lv2Default).unwrap_or(least)
-}
-
-/// The first `rsz:minimumSize`, an integer from 0 to `MOST_ROOM`.
-#[tactic(auto, unfolding(crate::specs::Ports::stated_size))]
-fn stated_size(store: &Store, port: &Term) -> Option<u32>
-    ensures value { result ≡ stated_size store.now port.now }
-    ensures within { IfSome result (λ size. size ≤ MOST_ROOM) }
-{
-    natural(MOST_ROOM, first(store, port, Word::RszMinimumSize)?)
-}
-
-/// The bytes that the port asks for, 0 where it doesn't.
-fn asked_size(store: &Store, port: &Term) -> u32
-    ensures value { result ≡ asked_size store.now port.now }
+/// The bytes that the port asks for by the first `rsz:minimumSize`, an integer from 0 to `MOST_ROOM`; 0 where there is none.
+fn asked_size(size: FirstTwo<'_>) -> u32
+    ensures value { result ≡ asked_by size.entry }
     ensures within { result ≤ MOST_ROOM }
 {
-    stated_size(store, port).unwrap_or(0)
+    stated_size(size).unwrap_or(0)
+}
+
+fn stated_size(size: FirstTwo<'_>) -> Option<u32>
+    ensures value { result ≡ option_and_then (natural_in 1048576) (first (two_of size.entry)) }
+    ensures within { IfSome result (λ size. size ≤ MOST_ROOM) }
+{
+    natural(MOST_ROOM, size.first()?)
 }
 
 /// The bytes of the port's buffer: at least `LEAST_ROOM`, rounded up to 8.
@@ -118,24 +80,74 @@ pub(crate) fn copy(alloc: Global, text: Option<&Text>) -> Result<Text, NoMemory>
     }
 }
 
-/// What is declared of a port.
-#[tactic(auto, unfolding(crate::specs::Ports::port_of))]
-pub(crate) fn port_of(alloc: Global, store: &Store, port: &Term) -> Result<Port, NoMemory>
-    ensures { IfOk result (λ made. made ≡ port_of store.now port.now) }
-{
-    let kind = kind(store, port);
-    Ok(Port {
-        index: index(store, port).unwrap_or(0),
-        symbol: copy(alloc, symbol(store, port))?,
-        name: copy(alloc, name(store, port, Word::Lv2Name))?,
-        input: is_a(store, port, Word::Lv2InputPort),
-        kind,
-        optional: is_optional(store, port),
-        first: first_value(store, port),
-        least: value_at(store, port, Word::Lv2Minimum),
-        most: value_at(store, port, Word::Lv2Maximum),
-        room: room(kind, asked_size(store, port)),
-        control: has(store, port, Word::Lv2Designation, Word::Lv2Control),
-        patch: has(store, port, Word::AtomSupports, Word::PatchMessage),
-    })
+impl<'a> PortName<'a> {
+    /// The first name without a language tag, else the first.
+    pub(crate) fn text(&self) -> Option<&'a Text>
+        ensures { option_copied result ≡ name_by self.now }
+    {
+        match self.untagged {
+            Some(name) => text(name),
+            None => text(self.literal?),
+        }
+    }
+}
+
+impl Classes {
+    /// The first of the four classes.
+    pub(crate) fn kind(&self) -> PortKind
+        ensures { result ≡ kind_by self.now }
+    {
+        if self.audio {
+            PortKind::Audio
+        } else if self.cv {
+            PortKind::Cv
+        } else if self.control {
+            PortKind::Control
+        } else if self.atom {
+            PortKind::Atom
+        } else {
+            PortKind::Unsupported
+        }
+    }
+}
+
+impl<'a> Bounds<'a> {
+    /// The default, else the minimum, else 0.
+    fn first_value(&self) -> Fixed
+        ensures { result ≡ first_value_by self.now }
+    {
+        let least = first_value(self.minimum).unwrap_or(Fixed(0));
+        first_value(self.default).unwrap_or(least)
+    }
+}
+
+impl<'a> PortFacts<'a> {
+    /// The text of the only `lv2:symbol`.
+    pub(crate) fn symbol_text(&self) -> Option<&'a Text>
+        ensures { option_copied result ≡ symbol_by self.now }
+    {
+        text(self.symbol.only()?)
+    }
+
+    /// What is declared of the port.
+    #[tactic(auto, unfolding(crate::specs::PortFacts::port_by))]
+    pub(crate) fn port(&self, alloc: Global) -> Result<Port, NoMemory>
+        ensures { IfOk result (λ port. port ≡ port_by self.now) }
+    {
+        let kind = self.classes.kind();
+        Ok(Port {
+            index: only_index(self.index).unwrap_or(0),
+            symbol: copy(alloc, self.symbol_text())?,
+            name: copy(alloc, self.name.text())?,
+            input: self.classes.input,
+            kind,
+            optional: self.uses.optional,
+            first: self.bounds.first_value(),
+            least: first_value(self.bounds.minimum),
+            most: first_value(self.bounds.maximum),
+            room: room(kind, asked_size(self.size)),
+            control: self.uses.control,
+            patch: self.uses.patch,
+        })
+    }
 }

@@ -1,15 +1,17 @@
-ghost use Rattle.std.specs.Prelude.{◌≡◌, ◌<◌, IfSome, length, position};
-ghost use Rattle.plugin_decl.specs.Checks.{is_broken_at, fault_of};
+ghost use Rattle.std.specs.Prelude.{◌≡◌, ◌<◌, ◌||◌, ◌&&◌, not, false, IfSome, is_none, length, position};
 ghost use Rattle.std.specs.List.{list_all};
-ghost use Rattle.plugin_decl.specs.PortRules.{is_letter, is_symbol_byte, is_symbol, lacks_symbol, lacks_name, lacks_direction, has_two_directions, is_unsupported, lacks_class, is_lone_value, is_lone_size, is_above, has_values, has_bad_value};
+ghost use Rattle.std.specs.Option.{option_map_or};
+ghost use Rattle.plugin_decl.specs.Checks.{is_broken_in, fault_of};
+ghost use Rattle.plugin_decl.specs.PortFacts.{symbol_by, name_by, kind_by, is_lone_value_by, is_lone_size_by, has_values_by, lacks_value, breaches_by};
+ghost use Rattle.plugin_decl.specs.PortRules.{is_letter, is_symbol_byte, is_symbol, is_unsupported, is_above};
 
+use crate::breaches::Breaches;
 use crate::declaration::{DeclFault, PortKind};
-use crate::objects::{is_a, objects};
-use crate::port::{MOST_ROOM, is_optional, kind, symbol, value_at};
-use crate::values::{name, natural, value};
-use crate::vocabulary::Word;
+use crate::first_two::FirstTwo;
+use crate::port::{MOST_ROOM, first_value};
+use crate::port_facts::{Bounds, Classes, PortFacts};
+use crate::values::{natural, value};
 use lv_base::Fixed;
-use triple_store::{Store, Term};
 
 /// The rules that look at one port alone.
 #[derive(Clone, Copy)]
@@ -29,16 +31,16 @@ pub enum PortRule {
 }
 
 impl PortRule {
-    pub(crate) fn is_broken(self, store: &Store, port: &Term) -> bool
-        ensures { result ≡ is_broken_at self store.now port.now }
+    pub(crate) fn is_broken(self, breaches: &Breaches) -> bool
+        ensures { result ≡ is_broken_in self breaches.now }
     {
         match self {
-            PortRule::Symbol => lacks_symbol(store, port),
-            PortRule::Name => lacks_name(store, port),
-            PortRule::Direction => lacks_direction(store, port),
-            PortRule::OneDirection => has_two_directions(store, port),
-            PortRule::Class => lacks_class(store, port),
-            PortRule::Value => has_bad_value(store, port),
+            PortRule::Symbol => breaches.symbol,
+            PortRule::Name => breaches.name,
+            PortRule::Direction => breaches.direction,
+            PortRule::OneDirection => breaches.one_direction,
+            PortRule::Class => breaches.class,
+            PortRule::Value => breaches.value,
         }
     }
 
@@ -57,11 +59,11 @@ impl PortRule {
     }
 
     /// The first port that breaks the rule.
-    pub(crate) fn first(self, store: &Store, ports: &[Term]) -> Option<usize>
-        ensures value { result ≡ position (is_broken_at self store.now) ports.now }
+    pub(crate) fn first(self, ports: &[Breaches]) -> Option<usize>
+        ensures value { result ≡ position (is_broken_in self) ports.now }
         ensures within { IfSome result (λ i. i < length ports.now) }
     {
-        ports.iter().position(|port| self.is_broken(store, port))
+        ports.iter().position(|port| self.is_broken(port))
     }
 }
 
@@ -94,82 +96,31 @@ fn is_symbol(text: &[u8]) -> bool
     }
 }
 
-/// It hasn't exactly one `lv2:symbol`, or that is no symbol.
-#[tactic(auto, unfolding(crate::specs::PortRules::lacks_symbol))]
-fn lacks_symbol(store: &Store, port: &Term) -> bool
-    ensures { result ≡ lacks_symbol store.now port.now }
-{
-    match symbol(store, port) {
-        Some(text) => !is_symbol(text.as_bytes()),
-        None => true,
-    }
-}
-
-/// It has no literal as `lv2:name`.
-#[tactic(auto, unfolding(crate::specs::PortRules::lacks_name))]
-fn lacks_name(store: &Store, port: &Term) -> bool
-    ensures { result ≡ lacks_name store.now port.now }
-{
-    name(store, port, Word::Lv2Name).is_none()
-}
-
-/// It is neither input nor output.
-#[tactic(auto, unfolding(crate::specs::PortRules::lacks_direction))]
-fn lacks_direction(store: &Store, port: &Term) -> bool
-    ensures { result ≡ lacks_direction store.now port.now }
-{
-    !(is_a(store, port, Word::Lv2InputPort) || is_a(store, port, Word::Lv2OutputPort))
-}
-
-/// It is both.
-#[tactic(auto, unfolding(crate::specs::PortRules::has_two_directions))]
-fn has_two_directions(store: &Store, port: &Term) -> bool
-    ensures { result ≡ has_two_directions store.now port.now }
-{
-    is_a(store, port, Word::Lv2InputPort) && is_a(store, port, Word::Lv2OutputPort)
-}
-
 fn is_unsupported(kind: PortKind) -> bool
     ensures { result ≡ is_unsupported kind }
 {
     matches!(kind, PortKind::Unsupported)
 }
 
-/// It has no supported class, and may not be left unconnected.
-#[tactic(auto, unfolding(crate::specs::PortRules::lacks_class))]
-fn lacks_class(store: &Store, port: &Term) -> bool
-    ensures { result ≡ lacks_class store.now port.now }
-{
-    is_unsupported(kind(store, port)) && !is_optional(store, port)
-}
-
 /// There is at most one value, and it can be read.
-#[tactic(auto, unfolding(crate::specs::PortRules::is_lone_value))]
-fn is_lone_value(store: &Store, port: &Term, bound: Word) -> bool
-    ensures { result ≡ is_lone_value store.now port.now bound }
+fn is_lone_value(objects: FirstTwo<'_>) -> bool
+    ensures { result ≡ is_lone_value_by objects.entry }
 {
-    let mut objects = objects(store, port, bound);
-    match objects.next() {
-        None => true,
-        Some(first) => match objects.next() {
-            None => value(first).is_some(),
-            Some(_) => false,
-        },
+    match objects {
+        FirstTwo::Neither => true,
+        FirstTwo::One(object) => value(object).is_some(),
+        FirstTwo::Both(_, _) => false,
     }
 }
 
-/// There is at most one `rsz:minimumSize`, an integer from 0 to `MOST_ROOM`.
-#[tactic(auto, unfolding(crate::specs::PortRules::is_lone_size))]
-fn is_lone_size(store: &Store, port: &Term) -> bool
-    ensures { result ≡ is_lone_size store.now port.now }
+/// There is at most one size, an integer from 0 to `MOST_ROOM`.
+fn is_lone_size(objects: FirstTwo<'_>) -> bool
+    ensures { result ≡ is_lone_size_by objects.entry }
 {
-    let mut objects = objects(store, port, Word::RszMinimumSize);
-    match objects.next() {
-        None => true,
-        Some(first) => match objects.next() {
-            None => natural(MOST_ROOM, first).is_some(),
-            Some(_) => false,
-        },
+    match objects {
+        FirstTwo::Neither => true,
+        FirstTwo::One(object) => natural(MOST_ROOM, object).is_some(),
+        FirstTwo::Both(_, _) => false,
     }
 }
 
@@ -182,28 +133,53 @@ fn is_above(least: Option<Fixed>, most: Option<Fixed>) -> bool
     }
 }
 
-/// A control port's values are read, and its minimum isn't above its maximum.
-#[tactic(auto, unfolding(crate::specs::PortRules::has_values))]
-fn has_values(store: &Store, port: &Term) -> bool
-    ensures { result ≡ has_values store.now port.now }
-{
-    is_lone_value(store, port, Word::Lv2Default)
-        && is_lone_value(store, port, Word::Lv2Minimum)
-        && is_lone_value(store, port, Word::Lv2Maximum)
-        && !is_above(
-            value_at(store, port, Word::Lv2Minimum),
-            value_at(store, port, Word::Lv2Maximum),
-        )
+impl<'a> Bounds<'a> {
+    /// The values of a control port can be read, and its minimum isn't above its maximum.
+    fn are_values(&self) -> bool
+        ensures { result ≡ has_values_by self.now }
+    {
+        is_lone_value(self.default)
+            && is_lone_value(self.minimum)
+            && is_lone_value(self.maximum)
+            && !is_above(first_value(self.minimum), first_value(self.maximum))
+    }
 }
 
-/// A control port is judged by its values, an atom port by its size.
-#[tactic(auto, unfolding(crate::specs::PortRules::has_bad_value))]
-fn has_bad_value(store: &Store, port: &Term) -> bool
-    ensures { result ≡ has_bad_value store.now port.now }
-{
-    match kind(store, port) {
-        PortKind::Control => !has_values(store, port),
-        PortKind::Atom => !is_lone_size(store, port),
-        _ => false,
+impl<'a> PortFacts<'a> {
+    /// It hasn't exactly one `lv2:symbol`, or that is no symbol.
+    fn lacks_symbol(&self) -> bool
+        ensures { result ≡ not (option_map_or is_symbol (symbol_by self.now) false) }
+    {
+        match self.symbol_text() {
+            Some(text) => !is_symbol(text.as_bytes()),
+            None => true,
+        }
+    }
+
+    /// A control port is judged by its values, an atom port by its size.
+    fn lacks_value(&self, kind: PortKind) -> bool
+        ensures { result ≡ lacks_value kind self.now }
+    {
+        match kind {
+            PortKind::Control => !self.bounds.are_values(),
+            PortKind::Atom => !is_lone_size(self.size),
+            _ => false,
+        }
+    }
+
+    /// Which rules on one port alone it breaks.
+    #[tactic(auto, unfolding(crate::specs::PortFacts::breaches_by))]
+    pub(crate) fn breaches(&self) -> Breaches
+        ensures { result ≡ breaches_by self.now }
+    {
+        let kind = self.classes.kind();
+        Breaches {
+            symbol: self.lacks_symbol(),
+            name: self.name.text().is_none(),
+            direction: !(self.classes.input || self.classes.output),
+            one_direction: self.classes.input && self.classes.output,
+            class: is_unsupported(kind) && !self.uses.optional,
+            value: self.lacks_value(kind),
+        }
     }
 }

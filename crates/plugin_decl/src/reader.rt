@@ -1,4 +1,4 @@
-ghost use Rattle.std.specs.Prelude.{◌≡◌, ◌≤◌, ◌⊎◌, ◌++◌, ℕ, List, length, map, IfOk, IfErr, OnOk};
+ghost use Rattle.std.specs.Prelude.{◌≡◌, ◌≤◌, ◌⊎◌, ◌++◌, ◌∷◌, ℕ, List, [], length, map, IfOk, IfErr, OnOk};
 ghost use Rattle.std.specs.List.{filter_map};
 ghost use Rattle.triple_store.specs.declared.term.Term.{Term};
 ghost use Rattle.triple_store.specs.declared.term.Term.TheVariants.{Iri};
@@ -6,17 +6,20 @@ ghost use Rattle.triple_store.specs.declared.term.Triple.{Triple};
 ghost use Rattle.plugin_decl.specs.declared.declaration.DeclFault.{DeclFault};
 ghost use Rattle.plugin_decl.specs.Declaration.{stated_version, version, extends, has_feature, is_safe, iris_of, ports_of, declared_ports, declaration_of};
 ghost use Rattle.plugin_decl.specs.Ports.{port_of};
+ghost use Rattle.plugin_decl.specs.PortFacts.{breaches_of};
 ghost use Rattle.plugin_decl.specs.Values.{iri_in};
 ghost use Rattle.plugin_decl.specs.Rules.{AreKeptBelow, AreAllKept, IsFirstBroken, IsCause};
 ghost use Rattle.plugin_decl.specs.Checks.{Checked};
 ghost use Rattle.plugin_decl.specs.Answer.{IsDeclOrNoMemory, IsFaultOrNoMemory};
 ghost use Rattle.plugin_decl.specs.Valid.{IsValid};
 
+use crate::breaches::Breaches;
 use crate::declaration::{Decl, DeclFault, Port};
 use crate::indexes::MOST_PORTS;
 use crate::objects::{Found, first, has, objects};
 use crate::plugin::Plugin;
-use crate::port::{copy, port_of};
+use crate::port::copy;
+use crate::port_facts::PortFacts;
 use crate::port_rules::PortRule;
 use crate::values::{iri, name, natural};
 use crate::vocabulary::Word;
@@ -75,15 +78,39 @@ fn push_iris(found: Found<'_>, iris: &mut Items<Text>) -> Result<(), NoMemory>
     Ok(())
 }
 
-/// What is declared of each of some ports.
-fn declared(alloc: Global, store: &Store, nodes: &[Term]) -> Result<Items<Port>, NoMemory>
-    ensures { IfOk result (λ ports. ports ≡ map (port_of store.now) nodes.now) }
+/// Adds what is declared of a port, and which rules it breaks.
+fn push_port(
+    alloc: Global,
+    store: &Store,
+    node: &Term,
+    ports: &mut Items<Port>,
+    breaches: &mut Items<Breaches>,
+) -> Result<(), NoMemory>
+    ensures ports { OnOk result (ports.new ≡ ports.old ++ port_of store.now node.now ∷ []) }
+    ensures breaches { OnOk result (breaches.new ≡ breaches.old ++ breaches_of store.now node.now ∷ []) }
 {
-    let mut ports = Items::new(alloc);
+    let facts = PortFacts::read(store, node);
+    let port = facts.port(alloc)?;
+    ports.push(port)?;
+    breaches.push(facts.breaches())?;
+    Ok(())
+}
+
+/// Adds what is declared of each of some ports, and which rules it breaks.
+fn push_ports(
+    alloc: Global,
+    store: &Store,
+    nodes: &[Term],
+    ports: &mut Items<Port>,
+    breaches: &mut Items<Breaches>,
+) -> Result<(), NoMemory>
+    ensures ports { OnOk result (ports.new ≡ ports.old ++ map (port_of store.now) nodes.now) }
+    ensures breaches { OnOk result (breaches.new ≡ breaches.old ++ map (breaches_of store.now) nodes.now) }
+{
     for node in nodes {
-        ports.push(port_of(alloc, store, node)?)?;
+        push_port(alloc, store, node, ports, breaches)?;
     }
-    Ok(ports)
+    Ok(())
 }
 
 impl<'a> Plugin<'a> {
@@ -99,7 +126,7 @@ impl<'a> Plugin<'a> {
         Ok(self.declaration(alloc, uri, ports)?)
     }
 
-    /// What is declared of these ports, or the first broken rule behind those on indexes.
+    /// What is declared of these ports, or the first broken rule after those on indexes.
     fn judged_ports(&self, alloc: Global, nodes: &[Term]) -> Result<Items<Port>, DeclFault>
         requires nodes { nodes.now ≡ ports_of self.now.store.now self.now.term.now }
         requires few { length nodes.now ≤ MOST_PORTS }
@@ -107,24 +134,26 @@ impl<'a> Plugin<'a> {
         ensures checked { Checked self.now.store.now self.now.term.now self.now.block 13 result }
         ensures ports { IfOk result (λ ports. ports ≡ declared_ports self.now.store.now self.now.term.now) }
     {
-        let ports = declared(alloc, self.store, nodes)?;
-        self.check_behind_indexes(nodes, ports.as_slice())?;
+        let mut ports = Items::new(alloc);
+        let mut breaches = Items::new(alloc);
+        push_ports(alloc, self.store, nodes, &mut ports, &mut breaches)?;
+        self.check_after_indexes(breaches.as_slice(), ports.as_slice())?;
         Ok(ports)
     }
 
-    /// The rules behind those on indexes.
-    fn check_behind_indexes(&self, nodes: &[Term], ports: &[Port]) -> Result<(), DeclFault>
-        requires nodes { nodes.now ≡ ports_of self.now.store.now self.now.term.now }
+    /// The rules after those on indexes.
+    fn check_after_indexes(&self, breaches: &[Breaches], ports: &[Port]) -> Result<(), DeclFault>
+        requires breaches { breaches.now ≡ map (breaches_of self.now.store.now) (ports_of self.now.store.now self.now.term.now) }
         requires ports { ports.now ≡ declared_ports self.now.store.now self.now.term.now }
-        requires few { length nodes.now ≤ MOST_PORTS }
+        requires few { length breaches.now ≤ MOST_PORTS }
         requires few_ports { length ports.now ≤ MOST_PORTS }
         requires kept { AreKeptBelow self.now.store.now self.now.term.now self.now.block 4 }
         ensures { Checked self.now.store.now self.now.term.now self.now.block 13 result }
     {
-        self.check_ports(nodes, ports)?;
+        self.check_ports(breaches, ports)?;
         self.check_features()?;
         self.check_options()?;
-        self.check(PortRule::Value, nodes)
+        self.check(PortRule::Value, breaches)
     }
 
     /// The declaration with these ports.

@@ -32,14 +32,15 @@ pub(crate) fn iri(term: &Term) -> Option<&Text>
     }
 }
 
-fn is_literal(term: &Term) -> bool
+/// Whether it is a literal.
+pub(crate) fn is_literal(term: &Term) -> bool
     ensures { result ≡ is_literal term.now }
 {
     matches!(term, Term::Literal { .. })
 }
 
 /// Whether it is a literal without a language tag.
-fn is_untagged(term: &Term) -> bool
+pub(crate) fn is_untagged(term: &Term) -> bool
     ensures { result ≡ is_untagged term.now }
 {
     match term {
