@@ -1,0 +1,5 @@
+pub mod Found
+pub mod Kept
+pub mod Ordered
+pub mod Places
+pub mod Storing
