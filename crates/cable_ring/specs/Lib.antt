@@ -8,3 +8,4 @@ pub mod Held
 pub mod Planned
 pub mod Tables
 pub mod Opened
+pub mod Drawers

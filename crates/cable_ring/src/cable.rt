@@ -9,7 +9,8 @@ use crate::pass::{Count, Pass, Place};
 use crate::plays::HandOut;
 use crate::view::{RingSpec, View};
 use atomic_table::{Shared, Table, TableRule};
-use std::alloc::{AllocError, Global};
+use lv_base::NoMemory;
+use std::alloc::Global;
 
 /// What a cable is told when it is made.
 #[derive(Drop)]
@@ -51,7 +52,7 @@ impl Layout {
         cells: u32,
         rings: &[RingSpec],
         actors: u32,
-    ) -> Result<Self, AllocError>
+    ) -> Result<Self, NoMemory>
         ensures { IfOk result (λ layout. plan_of layout ≡ plan_with first cells actors rings.now) }
     {
         let mut copy = Vec::with_capacity(alloc, rings.len())?;
@@ -71,7 +72,7 @@ fn hand_out<M: Drop>(
     top: &Top<M>,
     desk: &mut Place<M>,
     layout: &Layout,
-) -> Result<Vec<Pass<M>>, AllocError>
+) -> Result<Vec<Pass<M>>, NoMemory>
     requires table { (desk.old.table_id ≡ top.now.table_id) × IsTableOf top.now.table_id (plan_of layout.now) × (plan_of top.now.key ≡ plan_of layout.now) }
     requires limits { IsPlan (plan_of layout.now) }
     requires desk { desk.old.me ≡ (Desk (plan_of layout.now) 0 [], []) }
@@ -106,7 +107,7 @@ impl<M: Drop> Cable<M> {
         cells: u32,
         rings: &[RingSpec],
         actors: u32,
-    ) -> Result<(Self, Vec<Pass<M>>), AllocError>
+    ) -> Result<(Self, Vec<Pass<M>>), NoMemory>
         requires limits { IsPlan (plan_with first cells actors rings.now) }
         ensures passes { IfOk result (λ made. AreOpened (table_of made.0) (plan_with first cells actors rings.now) actors made.1.items) }
     {

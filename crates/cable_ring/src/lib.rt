@@ -5,11 +5,14 @@
 mod actor;
 mod cable;
 mod calls;
+mod drawer;
 mod pass;
 mod plays;
+mod seat;
 mod view;
 
 pub use cable::{Cable, Layout, Wiring};
 pub use calls::Full;
 pub use pass::{Count, Pass};
+pub use seat::{Seat, beat, draw, left, look, look_beat, rise, send, take};
 pub use view::{Acting, Plan, RingSpec, View};
