@@ -15,6 +15,7 @@ use Rattle.step_law.specs.Actor.{actor_number}
 use Rattle.step_law.specs.Call.{call_number, call_at}
 use Rattle.step_law.specs.Entry.{begin_of, end_of}
 use Rattle.step_law.proofs.EventLaws.{call_back}
+use Rattle.record_law.specs.declared.shape.Broken.{Broken}
 use Rattle.record_law.specs.declared.shape.Broken.TheVariants as rule
 use Rattle.record_law.specs.declared.shape.Shape.{Shape}
 use Rattle.record_law.specs.Message.{History}
@@ -22,7 +23,7 @@ use Rattle.record_law.specs.History.{has}
 use Rattle.record_law.specs.Protocol.{done_in, after, history_of}
 use Rattle.record_law.specs.Lasting.{Lasting, is_other, lasting_after, lasting, may_overlap_at, is_active, keeps_class}
 use Rattle.record_law.specs.Threading.{may_overlap, Lasts}
-use Rattle.record_law.specs.Rules.{keeps}
+use Rattle.record_law.specs.Rules.{keeps, rules}
 use Rattle.record_law.specs.Lawful.{broken_at}
 use Rattle.record_law.specs.Laws.{RulesKeepClasses}
 use Rattle.record_law.proofs.Prefixes.{breaks_none}
@@ -42,11 +43,16 @@ find_none p (y ∷ before) later x = past (p y) (find_none p before later x)
     past true rest e = absurd (none-some y (sym e))
     past false rest e = rest e
 
+-- where an entry breaks no rule, it keeps each
+pub rule_kept : (s : Shape) (h : History) (e : Entry) (later : List Entry) (before behind : List Broken) (broken : Broken) → rules ≡ before ++ broken ∷ behind
+    → broken_at s h e later ≡ None → keeps s h e broken ≡ true
+rule_kept s h e later before behind broken split k =
+    not-false (keeps s h e broken)
+    (find_none (λ it. not (keeps s h e it)) before behind broken (subst (λ l. find (λ it. not (keeps s h e it)) l ≡ None) split (breaks_none s h e later k)))
+
 keeps_class_rule : (s : Shape) (h : History) (e : Entry) (later : List Entry) → broken_at s h e later ≡ None → keeps_class h e.kind e.a e.b ≡ true
-keeps_class_rule s h e later k =
-    not-false (keeps s h e rule.Class)
-    (find_none (λ broken. not (keeps s h e broken))
-    (rule.Syntax ∷ rule.Order ∷ rule.Ring ∷ rule.Full ∷ rule.Room ∷ rule.Look ∷ rule.Holder ∷ []) (rule.End ∷ []) rule.Class (breaks_none s h e later k))
+keeps_class_rule s h e later =
+    rule_kept s h e later (rule.Syntax ∷ rule.Order ∷ rule.Ring ∷ rule.Full ∷ rule.Room ∷ rule.Look ∷ rule.Holder ∷ []) (rule.End ∷ []) rule.Class refl
 
 -- ---- a call is among some where each test that all of them pass is passed by it
 

@@ -7,3 +7,7 @@ pub mod Pieces
 pub mod Together
 pub mod Tokens
 pub mod Overlaps
+pub mod Takes
+pub mod TakeLists
+pub mod NoTakes
+pub mod Turns

@@ -31,7 +31,7 @@ whole_call actor call inst message = one (begin_of actor call inst) message ∷ 
 -- a block: what control sent, the fronts that it asked for, each instance in the plan's order
 abbrev pub cycle : Shape → ℕ → List Task
 cycle s block =
-    one (block_of block) nothing ∷ look_messages ∷ map return_front (insts_of s) ++ map running s.plan ++ one (done_of block) nothing ∷ []
+    (one (block_of block) nothing ∷ look_messages ∷ []) ++ map return_front (insts_of s) ++ map running s.plan ++ (one (done_of block) nothing ∷ [])
 
 -- so many blocks from one on
 abbrev pub cycles : Shape → ℕ → ℕ → List Task

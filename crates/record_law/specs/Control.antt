@@ -47,18 +47,21 @@ finish_from k (it ∷ later) = finish it.kind k it.inst ++ finish_from (k + 1) l
 abbrev pub rings_left : Shape → List Ring
 rings_left s = AudioToControl ∷ map WorkerToControl (workers_of s)
 
--- Once audio has stopped, workers are told to stop. When all have, what is left is taken, the actions from the k-th on are done, and
--- each instance is deactivated and cleaned up.
+-- each instance is deactivated, and then each is cleaned up
+abbrev pub cleaning : Shape → List Task
+cleaning s =
+    flat_map (λ inst. whole_call Control Deactivate inst nothing) (insts_of s) ++ flat_map (λ inst. whole_call Control Cleanup inst nothing) (insts_of s)
+
+-- Once audio has stopped, workers are told to stop. When all have, what is left is taken, the actions from the k-th on are done, and the
+-- instances are cleaned up.
 abbrev pub ending : Shape → ℕ → List Task
 ending s k =
     map closing (workers_of s)
-    ++ one join nothing
-    ∷ map leftovers (rings_left s)
+    ++ (one join nothing ∷ [])
+    ++ map leftovers (rings_left s)
     ++ finish_from k (drop k s.actions)
-    ++ flat_map (λ inst. whole_call Control Deactivate inst nothing) (insts_of s)
-    ++ flat_map (λ inst. whole_call Control Cleanup inst nothing) (insts_of s)
-    ++ one last nothing
-    ∷ []
+    ++ cleaning s
+    ++ (one last nothing ∷ [])
 
 -- ---- moves
 

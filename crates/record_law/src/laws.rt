@@ -4,7 +4,7 @@ ghost use Rattle.record_law.specs.Worked.{session, steps, cases};
 ghost use Rattle.record_law.specs.Threading.{NoneOverlapsItsClass, InstantiationIsAlone};
 ghost use Rattle.record_law.specs.Tokens.{PartsAreTokens};
 ghost use Rattle.record_law.specs.Fits.{TogetherInOrder, PiecesCompose, PieceHoldsBefore, PieceFits};
-ghost use Rattle.record_law.specs.Laws.{HasSomeVerdict, HasOneViolation, LawfulHasNone, VerdictIsLawful, VerdictIsFirst, PrefixesKeepRules, RulesKeepClasses};
+ghost use Rattle.record_law.specs.Laws.{HasSomeVerdict, HasOneViolation, LawfulHasNone, VerdictIsLawful, VerdictIsFirst, PrefixesKeepRules, RulesKeepClasses, TakesComeInTurn, RulesKeepTokens};
 
 /// Each record is lawful, or has a first violation; the verdict says which.
 pub fn some_judgement()
@@ -43,9 +43,16 @@ pub fn together_in_order()
     ensures { TogetherInOrder }
 {}
 
-/// Until control has all parts, a part that has an owner is in no message, and one that has none is in one.
+/// In a record that keeps the rules, each take brings the message that is next on its ring.
+pub fn takes_come_in_turn()
+    ensures { TakesComeInTurn }
+{}
+
+/// Until control has all parts, a part that has an owner is in no message, and one that has none is in one: in a history in which takes
+/// come in turn and actors own what they call and send, and so in a record that keeps the rules.
 pub fn parts_are_tokens()
-    ensures { PartsAreTokens }
+    ensures of_history { PartsAreTokens }
+    ensures of_record { RulesKeepTokens }
 {}
 
 /// A worked record is lawful, and copies of it that are altered have the first violation that the rules give by hand.

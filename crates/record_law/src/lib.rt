@@ -7,6 +7,6 @@ mod shape;
 
 pub use laws::{
     keeps_threading_classes, one_judgement, parts_are_tokens, pieces_compose, prefixes_keep_rules,
-    some_judgement, together_in_order, worked_record,
+    some_judgement, takes_come_in_turn, together_in_order, worked_record,
 };
 pub use shape::{ActionKind, Broken, Shape, ShapeAction, ShapeInst};
