@@ -5,6 +5,7 @@ use Rattle.interaction.specs.Interaction.{Interaction}
 use Rattle.plugin_decl.specs.declared.declaration.Decl.{Decl}
 use Rattle.plugin_decl.specs.declared.declaration.Port.{Port}
 use Rattle.plugin_decl.specs.declared.options.Options.{Options}
+use Rattle.state_store.specs.declared.prop.Prop.{Prop}
 use Rattle.plug_api.specs.declared.fault.MakeFault.{MakeFault}
 use Rattle.plug_api.specs.declared.fault.MakeFault.TheVariants.{NoCode, Refused, NoMemory}
 use Rattle.plug_api.specs.Inputs.{Inputs, Outputs}
@@ -23,6 +24,9 @@ pub record FrontMeaning (F : Type 0) : Type 0 where
 -- the part that works; it attempts to respond, and a thread-safe restore to schedule jobs
 pub record BackMeaning (B : Type 0) : Type 0 where
   pub work : B → List ℕ → Interaction (B × ℕ)
+  -- a status and properties, where so many URIs have numbers
+  pub save : B → ℕ → ℕ × List (ℕ × Prop)
+  pub restore_safe : B → List (ℕ × Prop) → Interaction (B × ℕ)
 
 -- what making an instance gives: both parts and the URIs that then have numbers, or the number of a refusal, 0 where there is no such code
 pub data Making (F B : Type 0) : Type 0 where
@@ -35,6 +39,8 @@ pub record CodesMeaning (F B : Type 0) : Type 0 where
   pub text : List ℕ → Option (List ℕ)
   -- at a rate, with options, where these URIs have numbers
   pub make : Decl → ℕ → Options → List (List ℕ) → Making F B
+  -- both parts once they have these properties, and a status
+  pub restore : F → B → List (ℕ × Prop) → F × B × ℕ
 
 -- an answer is that of a meaning, or that there is no memory
 abbrev pub IsMade : {F B : Type 0} → Making F B → Result (F × B) MakeFault → List (List ℕ) → Type 0

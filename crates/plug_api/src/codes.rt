@@ -1,10 +1,12 @@
 ghost use Rattle.std.specs.Prelude.{◌≡◌, ◌++◌, List, ℕ, IsTrue, IfOk};
 ghost use Rattle.std.specs.Option.{option_copied};
 ghost use Rattle.plug_api.specs.Meaning.{CodesMeaning, IsMade};
+ghost use Rattle.plug_api.specs.Running.{FitsSame};
 
 use crate::{Back, Front, MakeFault};
 use lv_base::Text;
 use plugin_decl::{Decl, Options};
+use state_store::Props;
 use std::alloc::Global;
 use urid_map::Urids;
 
@@ -34,4 +36,9 @@ pub trait Codes {
         ensures fits { IfOk result (λ parts. IsTrue (Self.Front.meaning.fits parts.0 decl.now.ports)) }
         // URIs keep their numbers, also where it refuses.
         ensures urids { (more : List (List ℕ)) × (urids.new ≡ urids.old ++ more) };
+
+    /// Gives both parts of an instance their state back. The answer is a status: 0 where that was done.
+    fn restore(&self, front: &mut Self::Front, back: &mut Self::Back, from: &Props) -> u8
+        ensures restored { (front.new, back.new, result) ≡ (meaning self.now).restore front.old back.old from.now }
+        ensures fits { FitsSame Self.Front.meaning.fits front.old front.new };
 }
