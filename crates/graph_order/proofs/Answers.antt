@@ -1,5 +1,5 @@
 -- From the first broken line and the wiring to what `order` answers.
-use Rattle.std.proofs.Common.{◌≡◌, ◌⊎◌, ℕ, List, length, Option, None, Some, Result, Ok, Err, sym, ◌∙◌, subst, inl, inr, refl}
+use Rattle.std.proofs.Common.{◌≡◌, ℕ, List, length, Option, None, Some, Result, Ok, Err, sym, subst, inl, inr, refl}
 use Rattle.std.specs.Result.{IfOk, IfErr}
 use Rattle.plugin_decl.specs.declared.declaration.Decl.{Decl}
 use Rattle.session_script.specs.declared.session.CableLine.{CableLine}

@@ -1,7 +1,7 @@
 -- What it means that an instance feeds one of some others: there is a cable.
-use Rattle.std.proofs.Common.{◌≡◌, ℕ, ◌<◌, Bool, true, false, not, ◌&&◌, List, length, get_or, eqb, sym, ◌∙◌, ap, subst, refl, inl, inr}
-use Rattle.std.specs.List.{list_any, Any}
-use Rattle.std.proofs.lemmas.Bool.{and_parts, and_from, eqb-true, eq-eqb, cases_Bool, not-true}
+use Rattle.std.proofs.Common.{◌≡◌, ℕ, ◌<◌, Bool, true, not, ◌&&◌, List, length, get_or, eqb, sym, ◌∙◌, ap, subst, refl, inl, inr}
+use Rattle.std.specs.List.{Any}
+use Rattle.std.proofs.lemmas.Bool.{and_parts, and_from, eqb-true, eq-eqb, cases_Bool}
 use Rattle.std.proofs.lemmas.List.Folds.{Any-from_list_any, list_any-from_Any}
 use Rattle.session_script.specs.declared.session.CableLine.{CableLine}
 use Rattle.graph_order.specs.Wiring.{leads_into, feeds_some, feeds, AreWithin}

@@ -1,17 +1,16 @@
 -- A plan that grows by one instance after another, up to all.
-use Rattle.std.proofs.Common.{◌≡◌, ℕ, suc, ◌<◌, ◌≤◌, ◌+◌, Bool, true, false, not, ◌&&◌, ◌||◌, cond, List, [], ◌∷◌, ◌++◌, length, get_or, take, set, replicate, eqb, ltb, Some, sym, ◌∙◌, ap, subst, refl, inl, inr, arith}
-use Rattle.std.specs.List.{list_any, slice_get, IsDistinct, Any, All}
-use Rattle.std.specs.Option.{option_map_or}
+use Rattle.std.proofs.Common.{◌≡◌, ℕ, suc, ◌<◌, ◌≤◌, Bool, true, false, not, ◌&&◌, ◌||◌, List, [], ◌∷◌, ◌++◌, length, get_or, take, set, replicate, eqb, ltb, sym, ◌∙◌, ap, subst, refl, inl, inr, arith}
+use Rattle.std.specs.List.{list_any, IsDistinct, Any}
 use Rattle.std.specs.Cmp.{nat_eq_equiv}
-use Rattle.std.proofs.lemmas.Bool.{and_parts, and_from, and_right, and_left, or_cases, eqb-true, eq-eqb, not-true, not-false, not_from_false, cases_Bool, cases_order, cases_eq, cases_lt, lt-ltb, le-ltb, ltb-true, true_from_ne_false, or_right, ne_eqb}
-use Rattle.std.proofs.lemmas.List.{length_push, length-set, get_or_push, get_or_append_left, get_or-set_same, get_or-set_other, take-append-le, take_all, get_or-take, get_or-replicate, length-replicate, length-take-le, get_or_default, take_at}
-use Rattle.std.proofs.lemmas.List.Folds.{Any-from_list_any, list_any-from_Any, list_any-append, list_any_at}
+use Rattle.std.proofs.lemmas.Bool.{and_parts, and_from, and_right, and_left, or_cases, eqb-true, eq-eqb, not-true, not_from_false, cases_Bool, cases_eq, cases_lt, lt-ltb, le-ltb, true_from_ne_false, or_right, ne_eqb}
+use Rattle.std.proofs.lemmas.List.{length_push, length-set, get_or_push, get_or_append_left, get_or-set_same, get_or-set_other, take-append-le, get_or-take, get_or-replicate, length-replicate, length-take-le, get_or_default, take_at}
+use Rattle.std.proofs.lemmas.List.Folds.{Any-from_list_any, list_any-append, list_any_at}
 use Rattle.std.proofs.lemmas.Map.Keys.{IsDistinct-push}
 use Rattle.std.proofs.lemmas.Map.Steps.{length-le_from_distinct_below}
 use Rattle.session_script.specs.declared.session.CableLine.{CableLine}
 use Rattle.graph_order.specs.declared.plan.Plan.{Plan}
 use Rattle.graph_order.specs.Wiring.{AreWithin}
-use Rattle.graph_order.specs.Plans.{is_placed, keeps_waiting, is_ready, IsNext, IsLeastFirst, IsPlacing, IsLawful, IsPlanOf, IsMarking, IsGrowing}
+use Rattle.graph_order.specs.Plans.{is_placed, keeps_waiting, is_ready, IsNext, IsLawful, IsPlanOf, IsGrowing}
 use Rattle.graph_order.proofs.Shortening.{distinct-cons, distinct-nil}
 
 -- who is placed stands at some place

@@ -1,16 +1,14 @@
 -- A session has one answer.
-use Rattle.std.proofs.Common.{◌≡◌, ◌⊎◌, ℕ, zero, suc, ◌<◌, ◌≤◌, ◌+◌, Bool, true, false, not, ◌&&◌, List, [], ◌∷◌, length, get_or, take, eqb, Option, None, Some, sym, ◌∙◌, ap, subst, inl, inr, refl, arith}
+use Rattle.std.proofs.Common.{◌≡◌, ℕ, zero, suc, ◌<◌, ◌≤◌, ◌+◌, true, false, List, [], ◌∷◌, length, get_or, take, eqb, Option, None, Some, sym, ◌∙◌, ap, subst, inl, inr, refl, arith}
 use Rattle.std.proofs.lemmas.Bool.{and_parts, cases_order, not-true, eqb-true}
 use Rattle.std.proofs.lemmas.List.{take_more_same, take_all, ext_get_or}
-use Rattle.plugin_decl.specs.declared.declaration.Decl.{Decl}
 use Rattle.session_script.specs.declared.session.CableLine.{CableLine}
-use Rattle.session_script.specs.declared.session.Session.{Session}
 use Rattle.graph_order.specs.declared.fault.GraphFault.{GraphFault}
 use Rattle.graph_order.specs.declared.fault.GraphFault.TheVariants.{NoPort, Direction, Kind, NoPatch, NoState, Cycle, NoMemory}
 use Rattle.graph_order.specs.declared.lines.Broken.{Broken}
 use Rattle.graph_order.specs.declared.plan.Plan.{Plan}
-use Rattle.graph_order.specs.Wiring.{feeds, leads, AreWithin}
-use Rattle.graph_order.specs.Plans.{is_ready, IsNext, IsLeastFirst, IsPlacing, IsLawful, IsPlanOf}
+use Rattle.graph_order.specs.Wiring.{feeds, leads}
+use Rattle.graph_order.specs.Plans.{IsNext, IsLeastFirst, IsPlacing, IsLawful, IsPlanOf}
 use Rattle.graph_order.specs.Cycles.{IsCycle, IsAtMost, IsFirstCycle}
 use Rattle.graph_order.specs.Answer.{IsFaultOf}
 use Rattle.graph_order.proofs.Feeding.{there}

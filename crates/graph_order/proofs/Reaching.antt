@@ -1,10 +1,10 @@
 -- The lists that lead from an instance to another, and how many cables they have.
-use Rattle.std.proofs.Common.{◌≡◌, ℕ, suc, ◌<◌, ◌≤◌, ◌+◌, true, List, [], ◌∷◌, length, eqb, sym, subst, inl, inr, arith}
+use Rattle.std.proofs.Common.{◌≡◌, ℕ, suc, ◌<◌, true, List, [], ◌∷◌, length, sym, subst, inl, inr, arith}
 use Rattle.std.proofs.lemmas.Bool.{and_parts, and_from, cases_order}
 use Rattle.session_script.specs.declared.session.CableLine.{CableLine}
 use Rattle.graph_order.specs.Wiring.{feeds, leads}
 use Rattle.graph_order.specs.Cycles.{IsAtMost}
-use Rattle.graph_order.specs.Search.{reaches, is_marked, IsLeastFrom, IsStep}
+use Rattle.graph_order.specs.Search.{reaches, IsLeastFrom}
 use Rattle.graph_order.proofs.Feeding.{feeds_some-from}
 
 -- a list that leads on has a cable more than instances between

@@ -1,6 +1,6 @@
 -- The rows of the search: which instances they mark.
 use Rattle.std.proofs.Common.{◌≡◌, ℕ, zero, suc, ◌<◌, ◌≤◌, ◌+◌, Bool, true, false, not, ◌&&◌, ◌||◌, List, [], ◌∷◌, ◌++◌, length, get_or, take, set, replicate, eqb, sym, ◌∙◌, ap, subst, inl, inr, refl, arith}
-use Rattle.std.proofs.lemmas.Bool.{and_parts, and_from, and_right, and_left, and_cases, or_right, or_from, cases_eq, cases_lt, cases_Bool, eq-eqb, ne_eqb, eqb-true}
+use Rattle.std.proofs.lemmas.Bool.{and_from, and_right, and_left, and_cases, or_right, cases_eq, cases_lt, eq-eqb, ne_eqb}
 use Rattle.std.proofs.lemmas.List.{length-set, length-replicate, get_or-replicate, get_or-set_same, get_or-set_other, take_all, length_push, get_or_push, get_or_append_left}
 use Rattle.std.specs.List.{list_any}
 use Rattle.std.proofs.lemmas.List.Folds.{list_any_more}

@@ -1,20 +1,19 @@
 -- A session has an answer.
-use Rattle.std.proofs.Common.{◌≡◌, ◌⊎◌, ℕ, zero, suc, ◌<◌, ◌≤◌, ◌+◌, Bool, true, false, not, ◌&&◌, List, [], ◌∷◌, ◌++◌, length, get_or, set, replicate, eqb, Option, None, Some, sym, ◌∙◌, ap, subst, inl, inr, refl, arith}
+use Rattle.std.proofs.Common.{◌≡◌, ◌⊎◌, ℕ, zero, suc, ◌<◌, ◌+◌, Bool, true, false, ◌&&◌, List, [], ◌∷◌, ◌++◌, length, set, replicate, Option, None, Some, sym, ◌∙◌, ap, subst, inl, inr, refl, arith}
 use Rattle.std.proofs.lemmas.Bool.{and_parts, and_from, cases_Bool, cases_order, cases_lt}
 use Rattle.std.proofs.lemmas.List.{length_push}
 use Rattle.plugin_decl.specs.declared.declaration.Decl.{Decl}
 use Rattle.session_script.specs.declared.session.CableLine.{CableLine}
 use Rattle.session_script.specs.declared.session.Session.{Session}
-use Rattle.graph_order.specs.declared.fault.GraphFault.{GraphFault}
 use Rattle.graph_order.specs.declared.fault.GraphFault.TheVariants.{Cycle}
 use Rattle.graph_order.specs.declared.lines.Broken.{Broken}
 use Rattle.graph_order.specs.declared.plan.Plan.{Plan}
 use Rattle.graph_order.specs.Lines.{first_broken}
 use Rattle.graph_order.specs.Wiring.{feeds, leads, AreWithin}
 use Rattle.graph_order.specs.Plans as plans
-use Rattle.graph_order.specs.Cycles.{IsCycle, HasCycle, IsAtMost, IsFirstCycle}
+use Rattle.graph_order.specs.Cycles.{HasCycle, IsAtMost, IsFirstCycle}
 use Rattle.graph_order.specs.Search.{reaches, IsLeastFrom, IsFirstThrough, IsOnNone, IsApartBelow}
-use Rattle.graph_order.specs.Answer.{IsPlanOf, IsFaultOf, IsFirstFault, HasAnswer, fault_at}
+use Rattle.graph_order.specs.Answer.{IsFaultOf, HasAnswer, fault_at}
 use Rattle.graph_order.proofs.Feeding.{feeds_some-one, feeds-within}
 use Rattle.graph_order.proofs.Reaching.{reaches-leads, least-on}
 use Rattle.graph_order.proofs.Shortening.{none-from-apart}

@@ -1,5 +1,5 @@
 -- Where no instance is ready although some have no place, some feed each other in a circle.
-use Rattle.std.proofs.Common.{◌≡◌, ◌⊎◌, ℕ, zero, suc, ◌<◌, ◌≤◌, ◌+◌, Bool, true, false, not, ◌&&◌, ◌||◌, List, [], ◌∷◌, length, get_or, eqb, sym, ◌∙◌, ap, subst, refl, inl, inr, arith}
+use Rattle.std.proofs.Common.{◌≡◌, ◌⊎◌, ℕ, zero, suc, ◌<◌, ◌≤◌, ◌+◌, true, false, not, ◌&&◌, List, [], ◌∷◌, length, eqb, sym, ◌∙◌, ap, subst, refl, inl, inr, arith}
 use Rattle.std.specs.List.{list_any, IsDistinct, Any}
 use Rattle.std.proofs.lemmas.Bool.{and_parts, and_from, and_cases, or_cases, or_left, eqb-true, eq-eqb, not-true, not-false, cases_Bool, cases_order}
 use Rattle.std.proofs.lemmas.List.Folds.{Any-from_list_any}

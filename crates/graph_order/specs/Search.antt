@@ -1,8 +1,8 @@
 -- How a cycle is found: which instances reach one over so many cables, and the least list that leads back to it.
-use Rattle.std.specs.Prelude.{◌≡◌, ℕ, zero, suc, ◌+◌, ◌<◌, ◌≤◌, ◌==◌, Bool, true, false, List, [], ◌∷◌, length, slice_index_or, Option, None, Some}
+use Rattle.std.specs.Prelude.{◌≡◌, ℕ, zero, suc, ◌+◌, ◌<◌, ◌≤◌, ◌==◌, Bool, true, false, List, [], ◌∷◌, length, slice_index_or}
 use Rattle.session_script.specs.declared.session.CableLine.{CableLine}
 use Rattle.graph_order.specs.Wiring.{feeds, feeds_some, leads}
-use Rattle.graph_order.specs.Cycles.{IsCycle, IsAtMost}
+use Rattle.graph_order.specs.Cycles.{IsAtMost}
 
 -- from an instance over n cables to another
 abbrev pub reaches : List CableLine → ℕ → ℕ → ℕ → Bool

@@ -1,5 +1,5 @@
 -- Which instance feeds which within a block: the cables without delay.
-use Rattle.std.specs.Prelude.{◌≡◌, ℕ, ◌<◌, ◌==◌, Bool, true, not, ◌&&◌, All, List, [], ◌∷◌}
+use Rattle.std.specs.Prelude.{ℕ, ◌<◌, ◌==◌, Bool, not, ◌&&◌, All, List, [], ◌∷◌}
 use Rattle.std.specs.List.{list_any}
 use Rattle.session_script.specs.declared.session.CableLine.{CableLine}
 

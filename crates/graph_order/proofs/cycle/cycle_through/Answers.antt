@@ -1,4 +1,4 @@
-use Rattle.std.proofs.Common.{ℕ, ◌+◌, Bool, List, Option, length, subst}
+use Rattle.std.proofs.Common.{◌+◌, Bool, List, Option, length, subst}
 use Rattle.std.specs.Option.{IfSome, IfNone}
 use Rattle.graph_order.specs.Search.{IsSearched, IsLeastOf, IsApartBelow}
 use Rattle.graph_order.proofs.Least.{through-of}

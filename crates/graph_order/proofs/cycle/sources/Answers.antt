@@ -1,4 +1,4 @@
-use Rattle.std.proofs.Common.{Bool, List, ◌+◌, ◌<◌, ◌&&◌, not, length, take, sym, ◌∙◌, subst, arith}
+use Rattle.std.proofs.Common.{Bool, List, ◌+◌, ◌<◌, not, length, take, sym, ◌∙◌, subst, arith}
 use Rattle.std.proofs.lemmas.Bool.{and_left, and_right, not_from_true, not_from_false}
 use Rattle.session_script.specs.declared.session.CableLine.{CableLine}
 use Rattle.graph_order.specs.Search.{is_marked, IsRowOf}

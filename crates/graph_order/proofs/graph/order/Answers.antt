@@ -1,6 +1,4 @@
-use Rattle.std.proofs.Common.{ℕ, List, length, sym, ◌∙◌, subst}
-use Rattle.session_script.specs.declared.session.CableLine.{CableLine}
-use Rattle.graph_order.specs.Answer.{Wires}
+use Rattle.std.proofs.Common.{length, sym, ◌∙◌}
 use Rattle.graph_order.proofs.Answers.{wires-at, wired-lawful, wired-planned, wired-refused}
 use Rattle.graph_order.proofs.graph.order.Goals as goal
 
