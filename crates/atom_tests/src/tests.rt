@@ -2,4 +2,5 @@ mod answers;
 mod events;
 mod forging;
 mod nesting;
+mod sequences;
 mod views;

@@ -111,3 +111,36 @@ fn an_outer_chunk(rt: HostRuntime) -> Result<(), Fail> {
     assert!(rt; whole);
     Ok(())
 }
+
+/// A sequence of one event at frame 0, an Object of type 16 with a Chunk behind the key 18.
+const CHUNK_WITHIN: [u8; 64] = [
+    56, 0, 0, 0, 10, 0, 0, 0, 0, 0, 0, 0, 0, 0, 0, 0, 0, 0, 0, 0, 0, 0, 0, 0, 32, 0, 0, 0, 9, 0, 0,
+    0, 0, 0, 0, 0, 16, 0, 0, 0, 18, 0, 0, 0, 0, 0, 0, 0, 3, 0, 0, 0, 11, 0, 0, 0, 1, 2, 3, 0, 0, 0,
+    0, 0,
+];
+
+/// Writes a Chunk in an object in a sequence, begins a second property with an object of its own, and takes that back.
+fn take_back_within(forge: &mut Forge) -> Result<(), NoRoom> {
+    forge.clear();
+    forge.sequence()?;
+    forge.event(0)?;
+    forge.object(0, 16)?;
+    forge.key(18)?;
+    forge.raw(11, &[1, 2, 3])?;
+    let mark = forge.mark();
+    forge.key(19)?;
+    forge.object(0, 0)?;
+    forge.key(20)?;
+    forge.back(mark);
+    forge.pop();
+    forge.pop();
+    Ok(())
+}
+
+#[test]
+fn an_object_is_taken_back(rt: HostRuntime) -> Result<(), Fail> {
+    let mut forge = Forge::with_room(rt.alloc(), 96)?;
+    assert_eq!(rt; take_back_within(&mut forge), Ok(()));
+    assert!(rt; forge.done() == CHUNK_WITHIN.as_slice());
+    Ok(())
+}
