@@ -11,9 +11,9 @@ use crate::files::Rendering;
 use crate::reading::read_session;
 use crate::refusal::{DONE, Refusal, Target};
 use crate::say::say;
+use audio_api::Codes;
 use lv_base::{Bytes, NoMemory, Text};
 use lv_outside::{Put, Sink, Vault};
-use audio_api::Codes;
 use session_script::Session;
 use std::alloc::Global;
 

@@ -1,5 +1,5 @@
-use lv_base::{NoMemory, Text};
 use audio_api::{Codes, Front, Ports};
+use lv_base::{NoMemory, Text};
 use std::alloc::Global;
 
 mod amplifier;

@@ -12,9 +12,9 @@ use crate::command::{Command, command_of};
 use crate::refusal::Refusal;
 use crate::rendering::run_render;
 use crate::say::{say_no_memory, say_usage};
+use audio_api::Codes;
 use lv_base::Text;
 use lv_outside::{Gate, Sink, Vault};
-use audio_api::Codes;
 use std::alloc::Global;
 
 /// Does what the words say, and answers the status that the program ends with.

@@ -3,8 +3,8 @@ ghost use Rattle.std.specs.Option.{option_copied};
 ghost use Rattle.plugin_decl.specs.Objects.{first, only};
 ghost use Rattle.plugin_decl.specs.PortFacts.{two_of, told};
 
-use triple_store::{Term, Triple};
 use crate::vocabulary::Word;
+use triple_store::{Term, Triple};
 
 /// The first two of some objects. They tell which is the first, and whether it is the only one.
 #[derive(Clone, Copy)]
@@ -34,7 +34,11 @@ impl<'a> FirstTwo<'a> {
     pub(crate) fn with_row(self, predicate: Word, row: &'a Triple) -> Self
         ensures { two_of result ≡ take 2 (two_of self.entry ++ told (row.now ∷ []) predicate) }
     {
-        if predicate.names(&row.p) { self.with(&row.o) } else { self }
+        if predicate.names(&row.p) {
+            self.with(&row.o)
+        } else {
+            self
+        }
     }
 
     pub(crate) fn first(self) -> Option<&'a Term>

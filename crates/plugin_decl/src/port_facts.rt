@@ -11,8 +11,8 @@ ghost use Rattle.plugin_decl.specs.PortFacts.{two_of, told, AreFacts};
 
 use crate::first_two::FirstTwo;
 use crate::values::{is_literal, is_untagged};
-use triple_store::{Matching, Store, Term, Triple};
 use crate::vocabulary::Word;
+use triple_store::{Matching, Store, Term, Triple};
 
 /// What the rows of a port say, as far as its declaration and the rules ask. It is read in one pass over them.
 #[derive(Clone, Copy)]

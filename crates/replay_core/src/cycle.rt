@@ -11,8 +11,8 @@ ghost use Rattle.replay_core.specs.Run.{IsRunning, Plays};
 
 use crate::pcm::push_block;
 use crate::run::Run;
-use lv_base::NoMemory;
 use audio_api::Codes;
+use lv_base::NoMemory;
 use session_script::Session;
 use step_record::{Actor, Entry, Ring};
 

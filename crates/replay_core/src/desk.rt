@@ -8,8 +8,8 @@ ghost use Rattle.replay_core.specs.Desk.{IsReady};
 
 use crate::mixer::Mixer;
 use crate::strip::Strip;
-use lv_base::NoMemory;
 use audio_api::{Front, Outs};
+use lv_base::NoMemory;
 use session_script::Session;
 use std::alloc::Global;
 

@@ -7,8 +7,8 @@ ghost use Rattle.replay_core.specs.Each.{each};
 ghost use Rattle.replay_core.specs.Signals.{signal_at, sample_at, sources_of, mixed};
 ghost use Rattle.replay_core.specs.Mixer.{number_at, sum_at, IsNear};
 
-use lv_base::{NoMemory, Sample};
 use audio_api::Outs;
+use lv_base::{NoMemory, Sample};
 use session_script::Session;
 use std::alloc::Global;
 use std::marker::Model;

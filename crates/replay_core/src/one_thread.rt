@@ -14,8 +14,8 @@ use crate::Outcome;
 use crate::phases::clean_up;
 use crate::run::Run;
 use crate::summary::summary;
-use lv_base::NoMemory;
 use audio_api::Codes;
+use lv_base::NoMemory;
 use session_script::Session;
 use std::alloc::Global;
 

@@ -4,8 +4,8 @@ ghost use Rattle.audio_api.specs.Outputs.{block_at};
 ghost use Rattle.audio_api.specs.Sound.{AreWhole};
 ghost use Rattle.replay_core.specs.Pcm.{sample_bytes, frame_bytes, block_bytes};
 
-use lv_base::{Bytes, NoMemory, Sample, pcm16};
 use audio_api::Outs;
+use lv_base::{Bytes, NoMemory, Sample, pcm16};
 use session_script::Session;
 
 /// Adds the PCM of a block: its frames in order, and of each the channels in order.

@@ -9,8 +9,8 @@ ghost use Rattle.step_record.specs.Entry.{last};
 ghost use Rattle.replay_core.specs.Run.{moment_of, IsRunning, Plays};
 
 use crate::run::Run;
-use lv_base::{Bytes, NoMemory};
 use audio_api::{Codes, Front};
+use lv_base::{Bytes, NoMemory};
 use session_script::Session;
 use std::alloc::Global;
 use step_record::{Actor, Call, Entry, Record, Ring};

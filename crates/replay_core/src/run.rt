@@ -10,8 +10,8 @@ ghost use Rattle.replay_core.specs.Run.{moment_of, IsRunning, Plays};
 
 use crate::calls::{activate, deactivate};
 use crate::desk::Desk;
-use lv_base::{Bytes, NoMemory};
 use audio_api::Codes;
+use lv_base::{Bytes, NoMemory};
 use session_script::Session;
 use std::alloc::Global;
 use step_record::{Actor, Call, Entry, Record};

@@ -7,8 +7,8 @@ ghost use Rattle.audio_api.specs.Outputs.{block_at, with_block};
 ghost use Rattle.audio_api.specs.Sound.{silence, AreWhole};
 
 use crate::mixer::Mixer;
-use lv_base::{Fixed, NoMemory};
 use audio_api::{Front, Ins, Outs, Ports, StockPorts};
+use lv_base::{Fixed, NoMemory};
 use session_script::Session;
 use std::alloc::Global;
 

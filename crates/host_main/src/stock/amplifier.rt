@@ -4,8 +4,8 @@ ghost use Rattle.audio_api.specs.Ports.{AreLent, inputs_of, outputs_of, referenc
 ghost use Rattle.audio_api.specs.StockPorts.{amp_ports};
 ghost use Rattle.host_main.specs.StockSound.{amplifier_sound};
 
-use lv_base::{Fixed, Sample, gain};
 use audio_api::Ports;
+use lv_base::{Fixed, Sample, gain};
 
 const GAIN: u32 = 0;
 

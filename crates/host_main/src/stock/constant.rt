@@ -3,8 +3,8 @@ ghost use Rattle.audio_api.specs.Ports.{AreLent, inputs_of, outputs_of, referenc
 ghost use Rattle.audio_api.specs.StockPorts.{const_ports};
 ghost use Rattle.host_main.specs.StockSound.{constant_sound};
 
-use lv_base::to_sample;
 use audio_api::Ports;
+use lv_base::to_sample;
 
 const VALUE: u32 = 0;
 

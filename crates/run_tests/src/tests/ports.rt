@@ -1,5 +1,5 @@
-use lv_base::{Fixed, NoMemory, Sample, Text};
 use audio_api::{Ins, Outs, Ports, StockPorts};
+use lv_base::{Fixed, NoMemory, Sample, Text};
 use std::process::Abort;
 
 fn assert_samples<R: Abort>(rt: &R, got: &[Sample], wanted: &[Sample]) {

@@ -4,8 +4,8 @@ ghost use Rattle.audio_api.specs.Inputs.{samples_at, value_at};
 ghost use Rattle.audio_api.specs.Ports.{AreLent, inputs_of, outputs_of, reference_of, with_output};
 ghost use Rattle.audio_api.specs.StockPorts.{const_ports, amp_ports};
 
-use lv_base::{NoMemory, Text, to_sample};
 use audio_api::{Codes, Front, Ports};
+use lv_base::{NoMemory, Text, to_sample};
 use std::alloc::Global;
 
 /// Codes that do as little as can be heard: a constant, and an amplifier that gives what it gets.

@@ -1,9 +1,9 @@
 ghost use Rattle.std.specs.Prelude.{◌≡◌, length};
 ghost use Rattle.audio_api.specs.Ports.{ArePortsOf, outputs_of, reference_of};
 
+use audio_api::{Front, Ins, Outs, Ports};
 use host_main::StockFront;
 use lv_base::{Fixed, NoMemory, Sample};
-use audio_api::{Front, Ins, Outs, Ports};
 use std::process::Abort;
 
 /// The whole life of any front, with one run.
