@@ -1,4 +1,4 @@
--- The list of all entries by ticket keeps the rules of a record that speak of rings.
+-- The list of all entries by ticket keeps the rules of a record on takes, on full rings, on sends, and on the least that a look shows.
 use Rattle.std.specs.Prelude.{◌≡◌, ℕ, true, List, ◌∷◌, ◌++◌, map, All}
 use Rattle.step_law.specs.declared.entry.Entry.{Entry}
 use Rattle.step_law.specs.Actor.{actor_number}
@@ -29,7 +29,7 @@ abbrev pub RingsKeepRules : Type 0
 RingsKeepRules = (s : Shape) (source target : ℕ → ℕ) (marks before after : List (ℕ × Entry)) (mark : ℕ × Entry) → KeepsRings s source target marks
     → marks ≡ before ++ mark ∷ after → KeepsRingRules s (history_of s (entries_in before)) mark.1
 
--- a look shows what its sender has gone on from, and no more than was sent when the looker goes on
+-- where one actor alone sends on a ring, a look at it shows at least what its sender has gone on from
 abbrev pub LooksKeepRules : Type 0
 LooksKeepRules = (s : Shape) (source target : ℕ → ℕ) (marks before after : List (ℕ × Entry)) (look : ℕ × Entry) → KeepsRings s source target marks
     → marks ≡ before ++ look ∷ after → is_on is_look look.1.a look ≡ true
