@@ -112,11 +112,7 @@ pub fn make<C: Codes, K: Marks>(
 }
 
 /// Deactivates an instance, of which both parts are here.
-pub fn deactivate<C: Codes, K: Marks>(
-    front: FrontOf<C>,
-    back: BackOf<C>,
-    marks: &mut K,
-) -> Made<C>
+pub fn deactivate<C: Codes, K: Marks>(front: FrontOf<C>, back: BackOf<C>, marks: &mut K) -> Made<C>
     requires same_inst { front.inst ≡ back.inst }
     requires marks { CanMarkCall K.actor_of K.can_mark K.marked marks.old }
     ensures marks { MarksCall K.actor_of K.marked Deactivate front.inst marks.old marks.new }

@@ -15,8 +15,8 @@ can_call {T} {t} sched l s = record {
   again =
       λ entry ticket called tried attempts marks goes.
       let both =
-          written t.left t.drawn t.rest sched.tickets.now called.tickets.now sched.log.now called.log.now entry ticket sched.room marks.writes
-          (omega (arith, l)) (omega (arith, s)) in
+      written t.left t.drawn t.rest sched.tickets.now called.tickets.now sched.log.now called.log.now entry ticket sched.room marks.writes
+      (omega (arith, l)) (omega (arith, s)) in
       let same : called.room ≡ sched.room = marks.room in
       steps_keep t.left t.drawn t.rest (target_of called) (listed_in called) (listed_in tried) attempts goes.steps
       (omega (arith, same, both.0), omega (arith, same, both.1));

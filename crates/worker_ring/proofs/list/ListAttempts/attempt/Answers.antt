@@ -21,19 +21,22 @@ returns g c =
     let s = c.args.self.now in
     let t = g.T.Tickets in
     record {
-      steps =
-          (_, marked_step t.left t.drawn t.rest (target_of s) s.room (listed_in s) _ _ c.if-self-eq0.false
-          (record {
-            ticket = c.draw-ticket.result;
-            writes = record {
-              draws = c.draw-ticket.ensures.draws;
-              above = c.draw-ticket.ensures.above;
-              puts = c.put.ensures ∙ ap (λ kind. with_entry s.log.now c.draw-ticket.result (on_ring s.actor s.ring kind)) c.put-kind.ensures.kind;
-            };
-            answer = c.put-kind.ensures.status;
-            waiting = c.put-kind.ensures.list;
-          })
-          refl, refl);
+      steps = (
+        _,
+        marked_step t.left t.drawn t.rest (target_of s) s.room (listed_in s) _ _ c.if-self-eq0.false
+            (record {
+              ticket = c.draw-ticket.result;
+              writes = record {
+                draws = c.draw-ticket.ensures.draws;
+                above = c.draw-ticket.ensures.above;
+                puts = c.put.ensures ∙ ap (λ kind. with_entry s.log.now c.draw-ticket.result (on_ring s.actor s.ring kind)) c.put-kind.ensures.kind;
+              };
+              answer = c.put-kind.ensures.status;
+              waiting = c.put-kind.ensures.list;
+            })
+            refl,
+        refl,
+      );
       target = refl;
       same = refl;
     }

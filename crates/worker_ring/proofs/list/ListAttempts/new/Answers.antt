@@ -6,6 +6,7 @@ use Rattle.worker_ring.proofs.list.ListAttempts.new.Goals as goal
 
 pub returns-clause-call : goal.returns-clause-call
 returns-clause-call g c =
-    elim c.if-works.branch
-    [ then-works w ↦ can_call _ (omega (arith, w.result-is, c.requires.tickets)) (omega (arith, w.result-is, c.requires.spare))
-    | else-works w ↦ can_call _ (omega (arith, w.result-is, c.requires.tickets)) (omega (arith, w.result-is, c.requires.spare)) ]
+    elim c.if-works.branch [
+      | then-works w ↦ can_call _ (omega (arith, w.result-is, c.requires.tickets)) (omega (arith, w.result-is, c.requires.spare))
+      | else-works w ↦ can_call _ (omega (arith, w.result-is, c.requires.tickets)) (omega (arith, w.result-is, c.requires.spare))
+    ]
