@@ -5,5 +5,4 @@ pub mod Picks
 pub mod Merging
 pub mod Holding
 pub mod Putting
-pub mod Earliest
 pub mod Unique

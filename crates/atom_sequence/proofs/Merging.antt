@@ -1,5 +1,5 @@
 -- What the merge comes to, one event after the other.
-use Rattle.std.proofs.Common.{◌≡◌, ℕ, ◌+◌, ◌-◌, ◌≤◌, ◌<◌, Bool, true, false, if◌then◌else◌, nat_le, List, [], ◌∷◌, ◌++◌, length, set, ℤ, refl, sym, ap, ◌∙◌, append_assoc, length-append, arith}
+use Rattle.std.proofs.Common.{◌≡◌, ℕ, ◌+◌, ◌-◌, ◌≤◌, ◌<◌, Bool, true, false, if◌then◌else◌, nat_le, List, [], ◌∷◌, ◌++◌, length, set, ℤ, sym, ap, ◌∙◌, append_assoc, length-append, arith}
 use Rattle.std.proofs.lemmas.Bool.Decides.{nat_tests}
 use Rattle.std.proofs.lemmas.List.{append-nil}
 use Rattle.atom_core.specs.Value.{timed}
@@ -9,7 +9,7 @@ use Rattle.atom_sequence.specs.declared.cursor.Cursor.{Cursor}
 use Rattle.atom_sequence.specs.Event.{Event, as_parts, size_of}
 use Rattle.atom_sequence.specs.Merge.{joined, in_order, cut, merged}
 use Rattle.atom_sequence.specs.Views.{with_events}
-use Rattle.atom_sequence.specs.Cursors.{HasLeft, HaveLeft, EachNeverFalls, IsMerging}
+use Rattle.atom_sequence.specs.Cursors.{HasLeft, IsMerging}
 use Rattle.atom_sequence.proofs.Picks.{Picked}
 
 pub cut_fits : (room : ℕ) (e : Event) (events : List Event) → size_of e ≤ room → cut room (e ∷ events) ≡ e ∷ cut (room - size_of e) events
@@ -27,20 +27,6 @@ parts_more [] e = sym (append-nil (part_of (timed e.time) e.value))
 parts_more (d ∷ done) e =
     append_assoc (part_of (timed d.time) d.value) (parts_of (as_parts done)) (part_of (timed e.time) e.value)
     ∙ ap (λ (l : List ℕ). part_of (timed d.time) d.value ++ l) (parts_more done e)
-
-pub begin_merging : (all : List (List Event)) (start : Forged) (cursors : List Cursor) → HaveLeft cursors all → EachNeverFalls all → start.waits ≡ false
-    → IsMerging all start start cursors 0
-begin_merging all start cursors have falls still = record {
-  lists = all;
-  done = [];
-  have = have;
-  fall = falls;
-  merge = refl;
-  forge_is =
-      ap (λ (w : Bool). record { room = start.room; bytes = start.bytes; levels = start.levels; waits = w }) still
-      ∙ ap (λ (b : List ℕ). record { room = start.room; bytes = b; levels = start.levels; waits = false }) (sym (append-nil start.bytes));
-  count = refl;
-}
 
 put_more : (start forge new : Forged) (done : List Event) (e : Event) → forge ≡ with_events start done → new ≡ with_piece forge (part_of (timed e.time) e.value) false
     → new ≡ with_events start (done ++ e ∷ [])

@@ -139,3 +139,9 @@ some_of (Some found) time e = refl
 
 pub some_next : (c : Cursor) (time : ℤ) → time_of c ≡ Some time → IsSome c.next
 some_next c time e = some_of c.next time e
+
+-- the time at a place is that of the cursor there
+pub time_at_is : (cursors : List Cursor) (k : ℕ) (d : Cursor) → k < length cursors → time_at cursors k ≡ time_of (get_or cursors k d)
+time_at_is [] k d lt = absurd (omega (arith, lt))
+time_at_is (c ∷ cursors) zero d lt = refl
+time_at_is (c ∷ cursors) (suc k) d lt = time_at_is cursors k d (omega (arith, lt))

@@ -57,9 +57,6 @@ pub record TimePut (old new : Forged) (e : Event) (l : Level) : Type 0 where
 size_is : (e : Event) → size_of e ≡ length (lead_bytes (timed e.time)) + length (with_padding (atom_of e.value))
 size_is e = length-append (lead_bytes (timed e.time)) (with_padding (atom_of e.value))
 
-pub time_full : (old : Forged) (e : Event) → left old < length (lead_bytes (timed e.time)) → left old < size_of e
-time_full old e h = omega (arith, h, size_is e)
-
 left_then : (old new : Forged) (e : Event) (l : Level) → TimePut old new e l → left new ≡ left old - length (lead_bytes (timed e.time))
 left_then old new e l h =
     let bytes : length new.bytes ≡ length old.bytes + length (lead_bytes (timed e.time)) =

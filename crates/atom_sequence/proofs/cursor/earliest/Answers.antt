@@ -1,6 +1,6 @@
 use Rattle.std.proofs.Common.{sym, ap, ◌∙◌, arith}
 use Rattle.atom_sequence.specs.Cursors.{time_of}
-use Rattle.atom_sequence.proofs.Earliest.{time_at_is}
+use Rattle.atom_sequence.proofs.Picks.{time_at_is}
 use Rattle.atom_sequence.proofs.cursor.earliest.Goals as goal
 
 pub loop-place-preserved : goal.loop-place-preserved

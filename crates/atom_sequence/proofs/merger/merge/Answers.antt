@@ -5,8 +5,7 @@ use Rattle.atom_sequence.specs.declared.cursor.Cursor.{Cursor}
 use Rattle.atom_sequence.specs.Event.{Event}
 use Rattle.atom_sequence.specs.Merge.{in_order, cut}
 use Rattle.atom_sequence.specs.Cursors.{HasLeft, time_of}
-use Rattle.atom_sequence.proofs.Earliest.{time_at_is}
-use Rattle.atom_sequence.proofs.Picks.{pick, take_at, some_next, nothing_left}
+use Rattle.atom_sequence.proofs.Picks.{pick, take_at, some_next, nothing_left, time_at_is}
 use Rattle.atom_sequence.proofs.Merging.{cut_full, merge_more, end_merging}
 use Rattle.atom_sequence.proofs.merger.merge.Goals as goal
 
