@@ -5,9 +5,9 @@ Run it anywhere, after the program was built (`rt run` in crates/record_count): 
 The record has 2^20 lines: blocks of audio with 30 instances, of which one has a job in each block that its worker does, each with
 its response. The program reads the file once and its entries 1 and 11 times, or writes its text 0 and 10 times; the time of one
 reading or writing is a tenth of the difference, the least of five. Memory is the greatest resident size of the process that reads
-once, less that of one that reads a record of two entries, less the file's bytes.
+once, less the file's bytes: the process itself, a few megabytes, counts too.
 """
-import os, sys, tempfile, time, subprocess
+import itertools, os, sys, tempfile, time, subprocess
 
 HERE = os.path.dirname(os.path.abspath(__file__))
 PROGRAM = os.path.join(HERE, '..', 'crates', 'record_count', 'out', 'record_count')
@@ -21,12 +21,17 @@ def block(number):
     return [f'A block {number}', 'A look CA 0', *worked, *silent, f'A done {number}']
 
 
-def record():
-    lines, number = [], 0
-    while len(lines) < LINES - 1:
-        lines += block(number)
-        number += 1
-    return ''.join(line + '\n' for line in ['lv2fx-record 1', *lines[:LINES - 1], 'end'])
+def lines():
+    """The record's lines, one after the other, so that this process stays small: a process that it starts begins with its size."""
+    yield 'lv2fx-record 1'
+    left = LINES - 1
+    for number in itertools.count():
+        for line in block(number):
+            if left == 0:
+                yield 'end'
+                return
+            left -= 1
+            yield line
 
 
 def run(path, reads, writes):
@@ -48,17 +53,16 @@ def main():
     if not os.path.exists(PROGRAM):
         sys.exit('bench: the program is not built; `rt run` in crates/record_count builds it')
     with tempfile.TemporaryDirectory() as folder:
-        large, small = os.path.join(folder, 'large.rec'), os.path.join(folder, 'small.rec')
-        text = record().encode()
-        for path, content in ((large, text), (small, b'lv2fx-record 1\nA block 0\nend\n')):
-            with open(path, 'wb') as file:
-                file.write(content)
+        large = os.path.join(folder, 'large.rec')
+        with open(large, 'w') as file:
+            file.writelines(line + '\n' for line in lines())
+        size = os.path.getsize(large)
         reading = of_ten((large, 0, 0), (large, 10, 0))
         writing = of_ten((large, 0, 0), (large, 0, 10))
-        memory = run(large, 0, 0)[1] - run(small, 0, 0)[1] - len(text)
-    print(f'{len(text) / 1e6:.1f} MB, {LINES} entries')
-    print(f'read  {reading:.4f} s, {len(text) / reading / 1e6:.0f} MB/s, {memory / LINES:.1f} bytes an entry beside the text')
-    print(f'write {writing:.4f} s, {len(text) / writing / 1e6:.0f} MB/s')
+        memory = run(large, 0, 0)[1] - size
+    print(f'{size / 1e6:.1f} MB, {LINES} entries')
+    print(f'read  {reading:.4f} s, {size / reading / 1e6:.0f} MB/s, {memory / LINES:.1f} bytes an entry beside the text')
+    print(f'write {writing:.4f} s, {size / writing / 1e6:.0f} MB/s')
 
 
 if __name__ == '__main__':
