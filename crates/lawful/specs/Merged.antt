@@ -1,14 +1,17 @@
--- The list of all entries by ticket keeps the rules of a record on takes, on full rings, on sends, and on the least that a look shows.
+-- The list of all entries by ticket keeps the rules of a record on takes, on full rings, on sends and on looks.
 use Rattle.std.specs.Prelude.{◌≡◌, ℕ, true, List, ◌∷◌, ◌++◌, map, All}
+use Rattle.step_law.specs.declared.actor.Actor.TheVariants.{Audio, Control}
 use Rattle.step_law.specs.declared.entry.Entry.{Entry}
 use Rattle.step_law.specs.Actor.{actor_number}
 use Rattle.step_law.specs.Ring.{ring_at}
-use Rattle.cable_trace.specs.Merged.{is_send, is_look, is_on, KeepsRing}
+use Rattle.cable_trace.specs.Merged.{is_send, is_take, is_look, KeepsRing}
+use Rattle.cable_trace.specs.MergedBeat.{is_beat, KeepsBeat}
+use Rattle.record_law.specs.declared.shape.Broken.TheVariants.{Look}
 use Rattle.record_law.specs.declared.shape.Shape.{Shape}
 use Rattle.record_law.specs.Message.{History}
 use Rattle.record_law.specs.Shape.{sender}
 use Rattle.record_law.specs.Room.{finds_message, is_really_full, has_room}
-use Rattle.record_law.specs.Looks.{shows_enough}
+use Rattle.record_law.specs.Rules.{keeps}
 use Rattle.record_law.specs.Protocol.{history_of}
 
 -- the entries of a list with tickets
@@ -29,9 +32,18 @@ abbrev pub RingsKeepRules : Type 0
 RingsKeepRules = (s : Shape) (source target : ℕ → ℕ) (marks before after : List (ℕ × Entry)) (mark : ℕ × Entry) → KeepsRings s source target marks
     → marks ≡ before ++ mark ∷ after → KeepsRingRules s (history_of s (entries_in before)) mark.1
 
--- where one actor alone sends on a ring, a look at it shows at least what its sender has gone on from
+-- The rings and the beat keep their rules, and each has one actor at each end: its sender in the session, audio for the beat, alone sends on
+-- it, and one actor alone looks at it and takes from it, control at the beat.
+pub record HaveOneActorAnEnd (s : Shape) (source target : ℕ → ℕ) (marks : List (ℕ × Entry)) : Type 0 where
+  pub rings : KeepsRings s source target marks
+  pub beat : KeepsBeat s.blocks (actor_number Audio) (actor_number Control) marks
+  pub senders : (ring : ℕ) → source ring ≡ actor_number (sender s (ring_at ring))
+  pub sends : All (λ mark. is_send mark.1.kind ≡ true → mark.1.actor ≡ source mark.1.a) marks
+  pub looks : All (λ mark. is_look mark.1.kind ≡ true → mark.1.actor ≡ target mark.1.a) marks
+  pub takes : All (λ mark. is_take mark.1.kind ≡ true → mark.1.actor ≡ target mark.1.a) marks
+  pub beats : All (λ mark. is_beat mark.1.kind ≡ true → mark.1.actor ≡ actor_number Control) marks
+
+-- Each look, at a ring or at the beat, then shows at least what its sender has gone on from, and at most what there is at the looker's next entry.
 abbrev pub LooksKeepRules : Type 0
-LooksKeepRules = (s : Shape) (source target : ℕ → ℕ) (marks before after : List (ℕ × Entry)) (look : ℕ × Entry) → KeepsRings s source target marks
-    → marks ≡ before ++ look ∷ after → is_on is_look look.1.a look ≡ true
-    → source look.1.a ≡ actor_number (sender s (ring_at look.1.a)) → All (λ mark. is_on is_send look.1.a mark ≡ true → mark.1.actor ≡ source look.1.a) marks
-    → shows_enough s (history_of s (entries_in before)) look.1.kind look.1.a look.1.b ≡ true
+LooksKeepRules = (s : Shape) (source target : ℕ → ℕ) (marks before after : List (ℕ × Entry)) (mark : ℕ × Entry) → HaveOneActorAnEnd s source target marks
+    → marks ≡ before ++ mark ∷ after → keeps s (history_of s (entries_in before)) mark.1 Look ≡ true
