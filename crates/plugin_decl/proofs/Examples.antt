@@ -4,9 +4,9 @@ use Rattle.std.specs.Prelude.{codes}
 use Rattle.triple_store.specs.declared.term.Term.{Term}
 use Rattle.triple_store.specs.declared.term.Term.TheVariants.{Iri, Blank, Literal}
 use Rattle.triple_store.specs.declared.term.Triple.{Triple}
-use Rattle.plugin_decl.specs.declared.vocabulary.Word.{Word}
-use Rattle.plugin_decl.specs.declared.vocabulary.Word.TheVariants.{RdfType, Lv2Plugin, Lv2Port, Lv2Index, Lv2Symbol}
-use Rattle.plugin_decl.specs.Vocabulary.{iri_of}
+use Rattle.vocabulary.specs.declared.word.Word.{Word}
+use Rattle.vocabulary.specs.declared.word.Word.TheVariants.{RdfType, Lv2Plugin, Lv2Port, Lv2Index, Lv2Symbol}
+use Rattle.vocabulary.specs.Words.{iri_of}
 use Rattle.plugin_decl.specs.Objects.{objects_of, has}
 use Rattle.plugin_decl.specs.Values.{integer_of, natural_in, name_in}
 use Rattle.plugin_decl.specs.Ports.{index_of, symbol_of, buffer_size}

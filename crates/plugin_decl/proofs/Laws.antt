@@ -7,7 +7,7 @@ use Rattle.triple_store.specs.declared.term.Term.{Term}
 use Rattle.triple_store.specs.declared.term.Triple.{Triple}
 use Rattle.plugin_decl.specs.declared.declaration.DeclFault.{DeclFault}
 use Rattle.plugin_decl.specs.declared.declaration.DeclFault.TheVariants.{NoPlugin, BadIndex, SameIndex, Gap, BadSymbol, SameSymbol, NoName, NoDirection, TwoDirections, PortClass, Feature, RequiredOption, BadValue, NoMemory}
-use Rattle.plugin_decl.specs.declared.vocabulary.Word.TheVariants.{Lv2RequiredFeature, OptionsRequiredOption}
+use Rattle.vocabulary.specs.declared.word.Word.TheVariants.{Lv2RequiredFeature, OptionsRequiredOption}
 use Rattle.plugin_decl.specs.Objects.{objects_of}
 use Rattle.plugin_decl.specs.Rules.{Rule, number, AreAllKept, IsFirst, IsFirstBroken}
 use Rattle.plugin_decl.specs.Rules.Rule.{no_plugin, bad_index, same_index, gap, bad_symbol, same_symbol, no_name, no_direction, two_directions, port_class, feature, required_option, bad_value}

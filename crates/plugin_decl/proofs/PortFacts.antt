@@ -9,15 +9,15 @@ use Rattle.std.proofs.lemmas.List.Folds.{find-append, list_any-append}
 use Rattle.triple_store.specs.Triples.{agrees}
 use Rattle.triple_store.specs.declared.term.Term.{Term}
 use Rattle.triple_store.specs.declared.term.Triple.{Triple}
-use Rattle.plugin_decl.specs.declared.vocabulary.Word.{Word}
-use Rattle.plugin_decl.specs.declared.vocabulary.Word.TheVariants.{Lv2Index, Lv2Symbol, Lv2Default, Lv2Minimum, Lv2Maximum, RszMinimumSize, Lv2Name}
+use Rattle.vocabulary.specs.declared.word.Word.{Word}
+use Rattle.vocabulary.specs.declared.word.Word.TheVariants.{Lv2Index, Lv2Symbol, Lv2Default, Lv2Minimum, Lv2Maximum, RszMinimumSize, Lv2Name}
 use Rattle.plugin_decl.specs.declared.breaches.Breaches.{Breaches}
 use Rattle.plugin_decl.specs.declared.declaration.PortKind.{PortKind}
 use Rattle.plugin_decl.specs.declared.declaration.PortKind.TheVariants.{Audio, Cv, Control, Atom, Unsupported}
 use Rattle.plugin_decl.specs.declared.first_two.FirstTwo.{FirstTwo}
 use Rattle.plugin_decl.specs.declared.first_two.FirstTwo.TheVariants.{Neither, One, Both}
 use Rattle.plugin_decl.specs.declared.port_facts.PortFacts.{PortFacts}
-use Rattle.plugin_decl.specs.Vocabulary.{names}
+use Rattle.plugin_decl.specs.Naming.{names}
 use Rattle.plugin_decl.specs.Objects.{object, objects_of, has, first, only}
 use Rattle.plugin_decl.specs.PortFacts.{two_of, told, AreFacts, symbol_by, name_by, kind_by, value_by, first_value_by, asked_by, port_by, is_lone_value_by, has_values_by, is_lone_size_by, lacks_value, breaches_by, breaches_of}
 use Rattle.plugin_decl.specs.PortRules.{is_symbol, is_lone, is_above, is_unsupported, lacks_symbol, lacks_name, lacks_direction, has_two_directions, lacks_class, is_lone_value, is_lone_size, has_values, lacks_value_by, has_bad_value}

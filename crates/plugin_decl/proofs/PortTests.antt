@@ -9,7 +9,7 @@ use Rattle.plugin_decl.specs.declared.breaches.Breaches.{Breaches}
 use Rattle.plugin_decl.specs.declared.declaration.Port.{Port}
 use Rattle.plugin_decl.specs.declared.port_rules.PortRule.{PortRule}
 use Rattle.plugin_decl.specs.declared.port_rules.PortRule.TheVariants.{Symbol, Name, Direction, OneDirection, Class, Value}
-use Rattle.plugin_decl.specs.declared.vocabulary.Word.TheVariants.{Lv2Plugin, Lv2RequiredFeature, OptionsRequiredOption}
+use Rattle.vocabulary.specs.declared.word.Word.TheVariants.{Lv2Plugin, Lv2RequiredFeature, OptionsRequiredOption}
 use Rattle.plugin_decl.specs.Objects.{objects_of, is_a}
 use Rattle.plugin_decl.specs.PortFacts.{breaches_of}
 use Rattle.plugin_decl.specs.Declaration.{ports_of, declared_ports}

@@ -5,8 +5,9 @@ use Rattle.triple_store.specs.declared.term.Term.{Term}
 use Rattle.triple_store.specs.declared.term.Term.TheVariants.{Iri}
 use Rattle.triple_store.specs.declared.term.Triple.{Triple}
 use Rattle.triple_store.specs.Triples.{same_term, agrees}
-use Rattle.plugin_decl.specs.declared.vocabulary.Word.{Word}
-use Rattle.plugin_decl.specs.Vocabulary.{iri_of, names}
+use Rattle.vocabulary.specs.declared.word.Word.{Word}
+use Rattle.vocabulary.specs.Words.{iri_of}
+use Rattle.plugin_decl.specs.Naming.{names}
 use Rattle.plugin_decl.specs.Objects.{object, objects_of}
 
 -- one row, which agrees with the subject and names the predicate or not

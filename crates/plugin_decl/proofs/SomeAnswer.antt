@@ -10,7 +10,7 @@ use Rattle.plugin_decl.specs.declared.declaration.DeclFault.{DeclFault}
 use Rattle.plugin_decl.specs.declared.declaration.DeclFault.TheVariants.{NoPlugin, BadIndex, SameIndex, Gap, SameSymbol, Feature, RequiredOption}
 use Rattle.plugin_decl.specs.declared.port_rules.PortRule.{PortRule}
 use Rattle.plugin_decl.specs.declared.port_rules.PortRule.TheVariants.{Symbol, Name, Direction, OneDirection, Class, Value}
-use Rattle.plugin_decl.specs.declared.vocabulary.Word.TheVariants.{Lv2Plugin, Lv2RequiredFeature, OptionsRequiredOption}
+use Rattle.vocabulary.specs.declared.word.Word.TheVariants.{Lv2Plugin, Lv2RequiredFeature, OptionsRequiredOption}
 use Rattle.plugin_decl.specs.Objects.{objects_of, is_a}
 use Rattle.plugin_decl.specs.Declaration.{indexes_of, is_index, ports_of, declared_ports}
 use Rattle.plugin_decl.specs.Features.{is_supported, is_given}

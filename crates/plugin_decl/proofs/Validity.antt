@@ -11,7 +11,7 @@ use Rattle.triple_store.specs.declared.term.Triple.{Triple}
 use Rattle.plugin_decl.specs.declared.declaration.Port.{Port}
 use Rattle.plugin_decl.specs.declared.declaration.PortKind.{PortKind}
 use Rattle.plugin_decl.specs.declared.declaration.PortKind.TheVariants.{Audio, Cv, Control, Atom, Unsupported}
-use Rattle.plugin_decl.specs.declared.vocabulary.Word.TheVariants.{RszMinimumSize}
+use Rattle.vocabulary.specs.declared.word.Word.TheVariants.{RszMinimumSize}
 use Rattle.plugin_decl.specs.Objects.{objects_of, first}
 use Rattle.plugin_decl.specs.Values.{natural_in}
 use Rattle.plugin_decl.specs.Ports.{index_of, kind_of, stated_size, asked_size, buffer_size, room_by, port_of}

@@ -7,8 +7,8 @@ use Rattle.triple_store.specs.declared.term.Term.TheVariants.{Iri}
 use Rattle.triple_store.specs.declared.term.Triple.{Triple}
 use Rattle.plugin_decl.specs.declared.declaration.Decl.{Decl}
 use Rattle.plugin_decl.specs.declared.declaration.Port.{Port}
-use Rattle.plugin_decl.specs.declared.vocabulary.Word.{Word}
-use Rattle.plugin_decl.specs.declared.vocabulary.Word.TheVariants.{Lv2Port, Lv2MinorVersion, Lv2MicroVersion, Lv2RequiredFeature, Lv2OptionalFeature, Lv2ExtensionData, WorkInterface, StateInterface, StateThreadSafeRestore, PatchReadable, PatchWritable, DoapName}
+use Rattle.vocabulary.specs.declared.word.Word.{Word}
+use Rattle.vocabulary.specs.declared.word.Word.TheVariants.{Lv2Port, Lv2MinorVersion, Lv2MicroVersion, Lv2RequiredFeature, Lv2OptionalFeature, Lv2ExtensionData, WorkInterface, StateInterface, StateThreadSafeRestore, PatchReadable, PatchWritable, DoapName}
 use Rattle.plugin_decl.specs.Objects.{objects_of, has, first}
 use Rattle.plugin_decl.specs.Values.{iri_in, name_in, natural_in}
 use Rattle.plugin_decl.specs.Ports.{index_of, port_of}

@@ -3,9 +3,9 @@ use Rattle.std.specs.Prelude.{ℕ, Bool, ◌&&◌, ◌||◌, List, [], ◌∷◌
 use Rattle.std.specs.Int.{is_power_of_two}
 use Rattle.std.specs.List.{list_any}
 use Rattle.triple_store.specs.declared.term.Term.{Term}
-use Rattle.plugin_decl.specs.declared.vocabulary.Word.{Word}
-use Rattle.plugin_decl.specs.declared.vocabulary.Word.TheVariants.{UridMap, UridUnmap, OptionsOptions, WorkSchedule, StateThreadSafeRestore, Lv2HardRtCapable, Lv2InPlaceBroken, Lv2IsLive, BufszBoundedBlockLength, BufszFixedBlockLength, BufszPowerOf2BlockLength, BufszMaxBlockLength, BufszMinBlockLength}
-use Rattle.plugin_decl.specs.Vocabulary.{names}
+use Rattle.vocabulary.specs.declared.word.Word.{Word}
+use Rattle.vocabulary.specs.declared.word.Word.TheVariants.{UridMap, UridUnmap, OptionsOptions, WorkSchedule, StateThreadSafeRestore, Lv2HardRtCapable, Lv2InPlaceBroken, Lv2IsLive, BufszBoundedBlockLength, BufszFixedBlockLength, BufszPowerOf2BlockLength, BufszMaxBlockLength, BufszMinBlockLength}
+use Rattle.plugin_decl.specs.Naming.{names}
 
 -- a term is one of these words
 abbrev pub is_among : List Word → Term → Bool

@@ -1,4 +1,4 @@
-pub mod Vocabulary
+pub mod Naming
 pub mod Objects
 pub mod Values
 pub mod Ports

@@ -5,9 +5,10 @@ use Rattle.triple_store.specs.declared.term.Term.{Term}
 use Rattle.triple_store.specs.declared.term.Term.TheVariants.{Iri}
 use Rattle.triple_store.specs.declared.term.Triple.{Triple}
 use Rattle.triple_store.specs.Triples.{agrees}
-use Rattle.plugin_decl.specs.declared.vocabulary.Word.{Word}
-use Rattle.plugin_decl.specs.declared.vocabulary.Word.TheVariants.{RdfType}
-use Rattle.plugin_decl.specs.Vocabulary.{iri_of, names}
+use Rattle.vocabulary.specs.declared.word.Word.{Word}
+use Rattle.vocabulary.specs.declared.word.Word.TheVariants.{RdfType}
+use Rattle.vocabulary.specs.Words.{iri_of}
+use Rattle.plugin_decl.specs.Naming.{names}
 
 -- the object of a row
 abbrev pub object : Triple → Term

@@ -5,8 +5,8 @@ use Rattle.std.specs.Option.{option_copied, option_or, option_and_then, option_m
 use Rattle.lv_base.specs.declared.number.Fixed.{Fixed}
 use Rattle.triple_store.specs.declared.term.Term.{Term}
 use Rattle.triple_store.specs.declared.term.Triple.{Triple}
-use Rattle.plugin_decl.specs.declared.vocabulary.Word.{Word}
-use Rattle.plugin_decl.specs.declared.vocabulary.Word.TheVariants.{RdfType, Lv2Index, Lv2Symbol, Lv2Name, Lv2InputPort, Lv2OutputPort, Lv2AudioPort, Lv2CvPort, Lv2ControlPort, Lv2PortProperty, Lv2ConnectionOptional, Lv2Designation, Lv2Control, Lv2Default, Lv2Minimum, Lv2Maximum, AtomAtomPort, AtomSupports, PatchMessage, RszMinimumSize}
+use Rattle.vocabulary.specs.declared.word.Word.{Word}
+use Rattle.vocabulary.specs.declared.word.Word.TheVariants.{RdfType, Lv2Index, Lv2Symbol, Lv2Name, Lv2InputPort, Lv2OutputPort, Lv2AudioPort, Lv2CvPort, Lv2ControlPort, Lv2PortProperty, Lv2ConnectionOptional, Lv2Designation, Lv2Control, Lv2Default, Lv2Minimum, Lv2Maximum, AtomAtomPort, AtomSupports, PatchMessage, RszMinimumSize}
 use Rattle.plugin_decl.specs.declared.breaches.Breaches.{Breaches}
 use Rattle.plugin_decl.specs.declared.declaration.Port.{Port}
 use Rattle.plugin_decl.specs.declared.declaration.PortKind.{PortKind}
@@ -17,7 +17,7 @@ use Rattle.plugin_decl.specs.declared.port_facts.Bounds.{Bounds}
 use Rattle.plugin_decl.specs.declared.port_facts.Classes.{Classes}
 use Rattle.plugin_decl.specs.declared.port_facts.PortFacts.{PortFacts}
 use Rattle.plugin_decl.specs.declared.port_facts.PortName.{PortName}
-use Rattle.plugin_decl.specs.Vocabulary.{names}
+use Rattle.plugin_decl.specs.Naming.{names}
 use Rattle.plugin_decl.specs.Objects.{object, first, only}
 use Rattle.plugin_decl.specs.PortRules.{is_symbol, is_lone, is_above, is_unsupported, lacks_symbol, lacks_name, lacks_direction, has_two_directions, lacks_class, has_bad_value}
 use Rattle.plugin_decl.specs.Ports.{room_by}

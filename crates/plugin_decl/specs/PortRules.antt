@@ -9,8 +9,8 @@ use Rattle.triple_store.specs.declared.term.Term.{Term}
 use Rattle.triple_store.specs.declared.term.Triple.{Triple}
 use Rattle.plugin_decl.specs.declared.declaration.PortKind.{PortKind}
 use Rattle.plugin_decl.specs.declared.declaration.PortKind.TheVariants.{Audio, Cv, Control, Atom, Unsupported}
-use Rattle.plugin_decl.specs.declared.vocabulary.Word.{Word}
-use Rattle.plugin_decl.specs.declared.vocabulary.Word.TheVariants.{Lv2Name, Lv2InputPort, Lv2OutputPort, Lv2Default, Lv2Minimum, Lv2Maximum, RszMinimumSize}
+use Rattle.vocabulary.specs.declared.word.Word.{Word}
+use Rattle.vocabulary.specs.declared.word.Word.TheVariants.{Lv2Name, Lv2InputPort, Lv2OutputPort, Lv2Default, Lv2Minimum, Lv2Maximum, RszMinimumSize}
 use Rattle.plugin_decl.specs.Objects.{objects_of, is_a}
 use Rattle.plugin_decl.specs.Values.{name_in, natural_in, value_in}
 use Rattle.plugin_decl.specs.Ports.{symbol_of, kind_of, is_optional, value_at}

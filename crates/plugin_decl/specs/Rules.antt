@@ -8,7 +8,7 @@ use Rattle.triple_store.specs.declared.term.Triple.{Triple}
 use Rattle.plugin_decl.specs.declared.declaration.Port.{Port}
 use Rattle.plugin_decl.specs.declared.declaration.DeclFault.{DeclFault}
 use Rattle.plugin_decl.specs.declared.declaration.DeclFault.TheVariants.{NoPlugin, BadIndex, SameIndex, Gap, BadSymbol, SameSymbol, NoName, NoDirection, TwoDirections, PortClass, Feature, RequiredOption, BadValue, NoMemory}
-use Rattle.plugin_decl.specs.declared.vocabulary.Word.TheVariants.{Lv2Plugin, Lv2RequiredFeature, OptionsRequiredOption}
+use Rattle.vocabulary.specs.declared.word.Word.TheVariants.{Lv2Plugin, Lv2RequiredFeature, OptionsRequiredOption}
 use Rattle.plugin_decl.specs.Objects.{objects_of, is_a}
 use Rattle.plugin_decl.specs.Declaration.{indexes_of, is_index, ports_of, declared_ports}
 use Rattle.plugin_decl.specs.Features.{is_supported, is_given}

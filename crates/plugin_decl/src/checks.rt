@@ -11,7 +11,7 @@ use crate::indexes::MOST_PORTS;
 use crate::objects::is_a;
 use crate::plugin::Plugin;
 use crate::port_rules::PortRule;
-use crate::vocabulary::Word;
+use vocabulary::Word;
 
 /// Whether one of some ports has the symbol of another.
 fn is_symbol_of(port: &Port, ports: &[Port]) -> bool

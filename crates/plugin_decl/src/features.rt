@@ -1,16 +1,17 @@
 ghost use Rattle.std.specs.Prelude.{◌≡◌, find, not};
 ghost use Rattle.std.specs.Option.{option_copied};
-ghost use Rattle.plugin_decl.specs.declared.vocabulary.Word.TheVariants.{Lv2RequiredFeature, OptionsRequiredOption};
+ghost use Rattle.vocabulary.specs.declared.word.Word.TheVariants.{Lv2RequiredFeature, OptionsRequiredOption};
 ghost use Rattle.plugin_decl.specs.Objects.{objects_of};
 ghost use Rattle.plugin_decl.specs.Features.{features, is_among, is_supported, is_given};
 ghost use Rattle.plugin_decl.specs.Rules.{AreKeptBelow};
 ghost use Rattle.plugin_decl.specs.Checks.{Checked};
 
 use crate::declaration::DeclFault;
+use crate::naming::is_word;
 use crate::objects::{copy_of, objects};
 use crate::plugin::Plugin;
-use crate::vocabulary::Word;
 use triple_store::Term;
+use vocabulary::Word;
 
 /// Whether a feature is supported, whatever the block's length.
 fn is_always_supported(feature: &Term) -> bool
@@ -29,7 +30,7 @@ fn is_always_supported(feature: &Term) -> bool
         Word::BufszFixedBlockLength,
     ]
     .iter()
-    .any(|word| word.names(feature))
+    .any(|word| is_word(*word, feature))
 }
 
 /// Whether a feature is supported for blocks of this length.
@@ -38,7 +39,7 @@ fn is_supported(block: u32, feature: &Term) -> bool
     ensures { result ≡ is_supported block feature.now }
 {
     is_always_supported(feature)
-        || (block.is_power_of_two() && Word::BufszPowerOf2BlockLength.names(feature))
+        || (block.is_power_of_two() && is_word(Word::BufszPowerOf2BlockLength, feature))
 }
 
 /// Whether an option is one that instances are given.
@@ -46,7 +47,7 @@ fn is_supported(block: u32, feature: &Term) -> bool
 fn is_given(option: &Term) -> bool
     ensures { result ≡ is_given option.now }
 {
-    Word::BufszMaxBlockLength.names(option) || Word::BufszMinBlockLength.names(option)
+    is_word(Word::BufszMaxBlockLength, option) || is_word(Word::BufszMinBlockLength, option)
 }
 
 impl<'a> Plugin<'a> {

@@ -3,8 +3,9 @@ ghost use Rattle.std.specs.Option.{option_copied};
 ghost use Rattle.plugin_decl.specs.Objects.{first, only};
 ghost use Rattle.plugin_decl.specs.PortFacts.{two_of, told};
 
-use crate::vocabulary::Word;
+use crate::naming::is_word;
 use triple_store::{Term, Triple};
+use vocabulary::Word;
 
 /// The first two of some objects. They tell which is the first, and whether it is the only one.
 #[derive(Clone, Copy)]
@@ -34,7 +35,7 @@ impl<'a> FirstTwo<'a> {
     pub(crate) fn with_row(self, predicate: Word, row: &'a Triple) -> Self
         ensures { two_of result ≡ take 2 (two_of self.entry ++ told (row.now ∷ []) predicate) }
     {
-        if predicate.names(&row.p) {
+        if is_word(predicate, &row.p) {
             self.with(&row.o)
         } else {
             self

@@ -10,10 +10,10 @@ use crate::declaration::DeclFault;
 use crate::objects::{Found, copy_of, objects};
 use crate::plugin::Plugin;
 use crate::port::index;
-use crate::vocabulary::Word;
 use lv_base::{Items, NoMemory};
 use std::alloc::Global;
 use triple_store::{Store, Term};
+use vocabulary::Word;
 
 /// The most ports: their indexes are from 0 to 255.
 pub(crate) const MOST_PORTS: usize = 256;

@@ -8,6 +8,7 @@ mod features;
 mod first_two;
 mod indexes;
 mod message_ports;
+mod naming;
 mod objects;
 mod options;
 mod plugin;
@@ -16,7 +17,6 @@ mod port_facts;
 mod port_rules;
 mod reader;
 mod values;
-mod vocabulary;
 
 pub use declaration::{Decl, DeclFault, Port, PortKind};
 pub use message_ports::{patch_port, reply_port};

@@ -1,13 +1,14 @@
 ghost use Rattle.std.specs.Prelude.{◌≡◌, map, filter, IfOk};
 ghost use Rattle.std.specs.Iterator.{YieldsFirstRef, item_count};
 ghost use Rattle.std.specs.Option.{option_copied};
-ghost use Rattle.plugin_decl.specs.Vocabulary.{names};
+ghost use Rattle.plugin_decl.specs.Naming.{names};
 ghost use Rattle.plugin_decl.specs.Objects.{object, objects_of, has, is_a, first, only};
 
-use crate::vocabulary::Word;
+use crate::naming::is_word;
 use lv_base::NoMemory;
 use std::marker::Model;
 use triple_store::{Matching, Store, Term};
+use vocabulary::Word;
 
 /// The objects of a subject's rows with one predicate, in order of the rows. Contracts see the list of those that are left.
 #[derive(Drop)]
@@ -20,7 +21,7 @@ impl<'a> Model for Found<'a> {
     ghost use Rattle.std.specs.Prelude.{List, map, filter};
     ghost use Rattle.triple_store.specs.declared.term.Term.{Term};
     ghost use Rattle.triple_store.specs.declared.term.Triple.{Triple};
-    ghost use Rattle.plugin_decl.specs.Vocabulary.{names};
+    ghost use Rattle.plugin_decl.specs.Naming.{names};
     ghost use Rattle.plugin_decl.specs.Objects.{object};
 
     ghost Value = { List Term };
@@ -37,7 +38,7 @@ impl<'a> Iterator for Found<'a> {
 
     fn next(&mut self) -> Option<&'a Term> {
         while let Some(row) = self.rows.next() {
-            if self.predicate.names(&row.p) {
+            if is_word(self.predicate, &row.p) {
                 return Some(&row.o);
             }
         }
@@ -86,7 +87,7 @@ pub(crate) fn only<'a>(store: &'a Store, subject: &'a Term, predicate: Word) -> 
 pub(crate) fn has(store: &Store, subject: &Term, predicate: Word, word: Word) -> bool
     ensures { result ≡ has store.now subject.now predicate word }
 {
-    objects(store, subject, predicate).any(|object| word.names(object))
+    objects(store, subject, predicate).any(|object| is_word(word, object))
 }
 
 /// Whether the subject is of a class.

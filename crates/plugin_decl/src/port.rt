@@ -10,10 +10,10 @@ use crate::first_two::FirstTwo;
 use crate::objects::only;
 use crate::port_facts::{Bounds, Classes, PortFacts, PortName};
 use crate::values::{natural, text, value};
-use crate::vocabulary::Word;
 use lv_base::{Fixed, NoMemory, Text};
 use std::alloc::Global;
 use triple_store::{Store, Term};
+use vocabulary::Word;
 
 /// The greatest index of a port.
 const MOST_INDEX: u32 = 255;

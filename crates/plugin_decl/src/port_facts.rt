@@ -2,17 +2,18 @@ ghost use Rattle.std.specs.Prelude.{◌≡◌, ◌∷◌, ◌++◌, ◌||◌, Li
 ghost use Rattle.std.specs.List.{list_any};
 ghost use Rattle.std.specs.Option.{option_copied, option_or};
 ghost use Rattle.triple_store.specs.declared.term.Term.{Term};
-ghost use Rattle.plugin_decl.specs.declared.vocabulary.Word.{Word};
-ghost use Rattle.plugin_decl.specs.declared.vocabulary.Word.TheVariants.{RdfType, Lv2Name, Lv2InputPort, Lv2OutputPort, Lv2AudioPort, Lv2CvPort, Lv2ControlPort, Lv2PortProperty, Lv2ConnectionOptional, Lv2Designation, Lv2Control, Lv2Default, Lv2Minimum, Lv2Maximum, AtomAtomPort, AtomSupports, PatchMessage};
-ghost use Rattle.plugin_decl.specs.Vocabulary.{names};
+ghost use Rattle.vocabulary.specs.declared.word.Word.{Word};
+ghost use Rattle.vocabulary.specs.declared.word.Word.TheVariants.{RdfType, Lv2Name, Lv2InputPort, Lv2OutputPort, Lv2AudioPort, Lv2CvPort, Lv2ControlPort, Lv2PortProperty, Lv2ConnectionOptional, Lv2Designation, Lv2Control, Lv2Default, Lv2Minimum, Lv2Maximum, AtomAtomPort, AtomSupports, PatchMessage};
+ghost use Rattle.plugin_decl.specs.Naming.{names};
 ghost use Rattle.plugin_decl.specs.Objects.{objects_of};
 ghost use Rattle.plugin_decl.specs.Values.{is_literal, is_untagged};
 ghost use Rattle.plugin_decl.specs.PortFacts.{two_of, told, AreFacts};
 
 use crate::first_two::FirstTwo;
+use crate::naming::is_word;
 use crate::values::{is_literal, is_untagged};
-use crate::vocabulary::Word;
 use triple_store::{Matching, Store, Term, Triple};
+use vocabulary::Word;
 
 /// What the rows of a port say, as far as its declaration and the rules ask. It is read in one pass over them.
 #[derive(Clone, Copy)]
@@ -65,7 +66,7 @@ pub struct Uses {
 fn or_told(before: bool, row: &Triple, predicate: Word, word: Word) -> bool
     ensures { result ≡ (before || list_any (names word) (told (row.now ∷ []) predicate)) }
 {
-    before || (predicate.names(&row.p) && word.names(&row.o))
+    before || (is_word(predicate, &row.p) && is_word(word, &row.o))
 }
 
 /// The term that was found before, else this one if it passes.
@@ -98,7 +99,7 @@ impl<'a> PortName<'a> {
         ensures untagged { option_copied result.untagged ≡ option_or (option_copied self.entry.untagged) (find is_untagged (told (row.now ∷ []) Lv2Name)) }
         ensures literal { option_copied result.literal ≡ option_or (option_copied self.entry.literal) (find is_literal (told (row.now ∷ []) Lv2Name)) }
     {
-        let is_name = Word::Lv2Name.names(&row.p);
+        let is_name = is_word(Word::Lv2Name, &row.p);
         PortName {
             untagged: or_passing(self.untagged, is_name && is_untagged(&row.o), &row.o),
             literal: or_passing(self.literal, is_name && is_literal(&row.o), &row.o),

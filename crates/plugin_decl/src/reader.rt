@@ -22,10 +22,10 @@ use crate::port::copy;
 use crate::port_facts::PortFacts;
 use crate::port_rules::PortRule;
 use crate::values::{iri, name, natural};
-use crate::vocabulary::Word;
 use lv_base::{Items, NoMemory, Text};
 use std::alloc::Global;
 use triple_store::{Store, Term};
+use vocabulary::Word;
 
 /// What the triples of a store declare of a plug-in, or the first rule that they break; for blocks of `block` frames.
 ///

@@ -5,9 +5,9 @@ ghost use Rattle.plugin_decl.specs.Objects.{objects_of};
 ghost use Rattle.plugin_decl.specs.Values.{text_in, iri_in, is_literal, is_untagged, name_in, integer_of, up_to, natural_in, value_of, value_in};
 
 use crate::objects::objects;
-use crate::vocabulary::Word;
 use lv_base::{Fixed, Text, are_digits, are_some_digits, parse_decimal, split_sign};
 use triple_store::{Store, Term};
+use vocabulary::Word;
 
 /// Numbers are counted up to this, which no `u32` reaches.
 const BEYOND: u64 = 1 << 32;

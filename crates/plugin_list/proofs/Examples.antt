@@ -3,7 +3,7 @@ use Rattle.std.proofs.Common.{◌≡◌, false, pos, [], ◌∷◌, ◌++◌, No
 use Rattle.triple_store.specs.declared.term.Term.TheVariants.{Iri, Blank}
 use Rattle.plugin_decl.specs.declared.declaration.PortKind.TheVariants.{Audio}
 use Rattle.plugin_decl.specs.declared.declaration.DeclFault.TheVariants.{BadIndex, Feature, RequiredOption}
-use Rattle.plugin_decl.specs.Vocabulary.{iri_of}
+use Rattle.vocabulary.specs.Words.{iri_of}
 use Rattle.plugin_list.specs.Listing.{port_line}
 use Rattle.plugin_list.specs.Rules.{rule_text}
 use Rattle.plugin_list.specs.Plugins.{plugins_of}

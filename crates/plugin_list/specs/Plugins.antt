@@ -4,8 +4,8 @@ use Rattle.std.specs.List.{filter_map}
 use Rattle.triple_store.specs.declared.term.Term.TheVariants.{Iri}
 use Rattle.triple_store.specs.declared.term.Triple.{Triple}
 use Rattle.triple_store.specs.Triples.{agrees}
-use Rattle.plugin_decl.specs.declared.vocabulary.Word.TheVariants.{RdfType, Lv2Plugin}
-use Rattle.plugin_decl.specs.Vocabulary.{iri_of}
+use Rattle.vocabulary.specs.declared.word.Word.TheVariants.{RdfType, Lv2Plugin}
+use Rattle.vocabulary.specs.Words.{iri_of}
 use Rattle.plugin_decl.specs.Values.{iri_in}
 
 -- the rows that say that their subject is a plug-in

@@ -1,16 +1,13 @@
 ghost use Rattle.std.specs.Prelude.{◌≡◌, ◌++◌, IfOk, OnOk};
 ghost use Rattle.std.specs.List.{filter_map};
 ghost use Rattle.triple_store.specs.declared.term.Term.TheVariants.{Iri};
+ghost use Rattle.vocabulary.specs.Words.{iri_of};
 ghost use Rattle.plugin_list.specs.Plugins.{subject_iri, plugins_of};
 
 use lv_base::{Items, NoMemory, Text};
 use std::alloc::Global;
 use triple_store::{Matching, Store, Term};
-
-/// `rdf:type`.
-const RDF_TYPE: &str = "http://www.w3.org/1999/02/22-rdf-syntax-ns#type";
-/// `lv2:Plugin`.
-const LV2_PLUGIN: &str = "http://lv2plug.in/ns/lv2core#Plugin";
+use vocabulary::Word;
 
 /// The IRIs that are an `lv2:Plugin`, in order of the rows that say so. A blank node that is one has no IRI, and isn't listed.
 ///
@@ -23,12 +20,11 @@ pub fn plugins(alloc: Global, store: &Store) -> Result<Items<Text>, NoMemory>
     Ok(uris)
 }
 
-#[tactic(auto, unfolding(plugin_decl::specs::Vocabulary::iri_of))]
 fn push_plugins(alloc: Global, store: &Store, uris: &mut Items<Text>) -> Result<(), NoMemory>
     ensures { OnOk result (uris.new ≡ uris.old ++ plugins_of store.now) }
 {
-    let predicate = iri(alloc, RDF_TYPE)?;
-    let class = iri(alloc, LV2_PLUGIN)?;
+    let predicate = iri(alloc, Word::RdfType)?;
+    let class = iri(alloc, Word::Lv2Plugin)?;
     push_subjects(store.matching(None, Some(&predicate), Some(&class)), uris)
 }
 
@@ -44,8 +40,8 @@ fn push_subjects(rows: Matching<'_>, uris: &mut Items<Text>) -> Result<(), NoMem
     Ok(())
 }
 
-fn iri(alloc: Global, characters: &str) -> Result<Term, NoMemory>
-    ensures { IfOk result (λ term. term ≡ Iri characters.now) }
+fn iri(alloc: Global, word: Word) -> Result<Term, NoMemory>
+    ensures { IfOk result (λ term. term ≡ Iri (iri_of word)) }
 {
-    Ok(Term::Iri(Text::from_str(alloc, characters)?))
+    Ok(Term::Iri(Text::from_str(alloc, word.iri())?))
 }

@@ -8,7 +8,7 @@ use Rattle.std.proofs.lemmas.Str.{is_utf8-from_IsUtf8, IsUtf8-from_is_utf8}
 use Rattle.std.proofs.lemmas.List.Elements.{All-from_recursion}
 use Rattle.percent_encoding.specs.Percent.{percent_decode}
 use Rattle.plugin_decl.specs.Objects.{is_a}
-use Rattle.plugin_decl.specs.declared.vocabulary.Word.TheVariants.{Lv2Plugin}
+use Rattle.vocabulary.specs.declared.word.Word.TheVariants.{Lv2Plugin}
 use Rattle.triple_store.specs.Triples.{agrees}
 use Rattle.triple_store.specs.declared.term.Term.{Term}
 use Rattle.triple_store.specs.declared.term.Term.TheVariants.{Iri, Blank, Literal}

@@ -6,7 +6,7 @@ use Rattle.triple_store.specs.Triples.{same_term, agrees}
 use Rattle.triple_store.specs.declared.term.Term.{Term}
 use Rattle.triple_store.specs.declared.term.Triple.{Triple}
 use Rattle.plugin_decl.specs.Objects.{is_a}
-use Rattle.plugin_decl.specs.declared.vocabulary.Word.TheVariants.{Lv2Plugin}
+use Rattle.vocabulary.specs.declared.word.Word.TheVariants.{Lv2Plugin}
 use Rattle.session_load.specs.Names.{manifest, folder_iri, see_also, file_by, file_of, file_at, joined, each_once, files_named}
 
 -- the names so far, and those that the rows left still bring

@@ -9,8 +9,9 @@ use Rattle.triple_store.specs.declared.term.Term.{Term}
 use Rattle.triple_store.specs.declared.term.Term.TheVariants.{Iri}
 use Rattle.triple_store.specs.declared.term.Triple.{Triple}
 use Rattle.triple_store.proofs.SameTerm.{eq_of_terms, same_term-true}
-use Rattle.plugin_decl.specs.declared.vocabulary.Word.TheVariants.{RdfType, Lv2Plugin}
-use Rattle.plugin_decl.specs.Vocabulary.{iri_of, names}
+use Rattle.vocabulary.specs.declared.word.Word.TheVariants.{RdfType, Lv2Plugin}
+use Rattle.vocabulary.specs.Words.{iri_of}
+use Rattle.plugin_decl.specs.Naming.{names}
 use Rattle.plugin_decl.specs.Objects.{object, objects_of, has, is_a}
 use Rattle.session_load.specs.Names.{subject}
 

@@ -4,7 +4,8 @@ use Rattle.std.specs.List.{list_any, list_all, filter_map, starts_with, slice_sp
 use Rattle.std.specs.Str.{is_utf8, bytes_eq}
 use Rattle.percent_encoding.specs.Percent.{percent_decode}
 use Rattle.plugin_decl.specs.Objects.{is_a}
-use Rattle.plugin_decl.specs.declared.vocabulary.Word.TheVariants.{Lv2Plugin}
+use Rattle.vocabulary.specs.Words.{iri_of}
+use Rattle.vocabulary.specs.declared.word.Word.TheVariants.{Lv2Plugin, RdfsSeeAlso}
 use Rattle.triple_store.specs.Triples.{agrees, same_term}
 use Rattle.triple_store.specs.declared.term.Term.{Term}
 use Rattle.triple_store.specs.declared.term.Term.TheVariants.{Iri}
@@ -48,7 +49,7 @@ file_named folder iri =
     if starts_with nat_eq iri folder && is_bare iri then inside (percent_decode (drop (length folder) iri)) else None
 
 abbrev pub see_also : Term
-see_also = Iri (codes "http://www.w3.org/2000/01/rdf-schema#seeAlso")
+see_also = Iri (iri_of RdfsSeeAlso)
 
 -- the file that an object names
 abbrev pub file_by : List ℕ → Term → Option (List ℕ)

@@ -4,7 +4,8 @@ ghost use Rattle.triple_store.specs.Triples.{agrees, same_term};
 ghost use Rattle.triple_store.specs.declared.term.Term.{Term};
 ghost use Rattle.triple_store.specs.declared.term.Term.TheVariants.{Iri};
 ghost use Rattle.plugin_decl.specs.Objects.{is_a};
-ghost use Rattle.plugin_decl.specs.declared.vocabulary.Word.TheVariants.{Lv2Plugin};
+ghost use Rattle.vocabulary.specs.Words.{iri_of};
+ghost use Rattle.vocabulary.specs.declared.word.Word.TheVariants.{Lv2Plugin};
 ghost use Rattle.session_load.specs.Names.{manifest, folder_iri, see_also, subject, file_of, joined, each_once, files_named};
 
 use crate::file_name::FileName;
@@ -13,18 +14,13 @@ use lv_base::{NoMemory, Text};
 use seeded_hash::SeededHash;
 use std::alloc::Global;
 use triple_store::{Matching, Store, Term, Triple};
+use vocabulary::Word;
 
 type Terms = IndexSet<Term, SeededHash>;
 
 pub(crate) type FileNames = IndexSet<FileName, SeededHash>;
 
-const TYPE: &str = "http://www.w3.org/1999/02/22-rdf-syntax-ns#type";
-
-const PLUGIN: &str = "http://lv2plug.in/ns/lv2core#Plugin";
-
-const SEE_ALSO: &str = "http://www.w3.org/2000/01/rdf-schema#seeAlso";
-
-/// The manifest, and behind it the files that its rows name, in order of the rows, each once.
+/// The manifest, and after it the files that its rows name, in order of the rows, each once.
 pub(crate) fn files_named(alloc: Global, number: u32, store: &Store) -> Result<FileNames, NoMemory>
     ensures { IfOk result (λ files. files.keys ≡ manifest ∷ files_named number store.now) }
 {
@@ -67,7 +63,7 @@ fn add_see_also(
 ) -> Result<(), NoMemory>
     ensures { OnOk result (files.new.keys ≡ files.old.keys ++ each_once files.old.keys (filter_map (file_of plugins.now.keys folder.now) (filter (agrees None (Some see_also) None) store.now))) }
 {
-    let see_also = iri(alloc, SEE_ALSO)?;
+    let see_also = iri(alloc, Word::RdfsSeeAlso)?;
     add_files(
         alloc,
         folder,
@@ -128,8 +124,8 @@ fn add_plugins(alloc: Global, store: &Store, plugins: &mut Terms) -> Result<(), 
     requires { plugins.old.keys ≡ [] }
     ensures { OnOk result ((s : Term) → list_any (same_term s) plugins.new.keys ≡ is_a store.now s Lv2Plugin) }
 {
-    let class = iri(alloc, PLUGIN)?;
-    let is_a = iri(alloc, TYPE)?;
+    let class = iri(alloc, Word::Lv2Plugin)?;
+    let is_a = iri(alloc, Word::RdfType)?;
     add_subjects(store.matching(None, Some(&is_a), Some(&class)), plugins)
 }
 
@@ -158,10 +154,10 @@ fn file_of(
     }
 }
 
-fn iri(alloc: Global, text: &str) -> Result<Term, NoMemory>
-    ensures { IfOk result (λ term. term ≡ Iri text.now) }
+fn iri(alloc: Global, word: Word) -> Result<Term, NoMemory>
+    ensures { IfOk result (λ term. term ≡ Iri (iri_of word)) }
 {
-    Ok(Term::Iri(Text::from_str(alloc, text)?))
+    Ok(Term::Iri(Text::from_str(alloc, word.iri())?))
 }
 
 /// The IRI of the folder of the bundle with this number.

@@ -21,7 +21,9 @@ use Rattle.turtle_grammar.specs.Tree.Triples.{about, with_more}
 use Rattle.turtle_grammar.specs.Tree.Statement.{at_prefix, at_base, triples}
 use Rattle.turtle_document.specs.Meaning.{Fault, ◌>>=◌, document_of, beginning}
 use Rattle.turtle_document.specs.Meaning.Fault.{no_prefix}
-use Rattle.turtle_document.specs.Vocabulary.{rdf, xsd, rdf_first, rdf_rest, rdf_nil, rdf_lang_string}
+use Rattle.turtle_document.specs.Vocabulary.{rdf_first, rdf_rest, rdf_nil, rdf_lang_string}
+use Rattle.vocabulary.specs.Words.{iri_of}
+use Rattle.vocabulary.specs.declared.word.Word.TheVariants.{XsdInteger, XsdDecimal}
 use lib.Utf8.{encode}
 
 abbrev leaf : ℕ → List ℕ → Leaf
@@ -55,13 +57,13 @@ four_lines =
 -- An IRI is seen from the base, an escape is its character, and a collection's own triples come before the one whose object it is.
 six_triples : rows_of four_lines ≡ Ok (
     row (named (codes "http://e.x/d/aA")) (named (codes "http://e.x/d/q#b%20c,d")) (terms.Literal (codes "x") rdf_lang_string (codes "en"))
-    ∷ row (terms.Blank 1) (named rdf_first) (terms.Literal (codes "1") (xsd ++ codes "integer") [])
+    ∷ row (terms.Blank 1) (named rdf_first) (terms.Literal (codes "1") (iri_of XsdInteger) [])
     ∷ row (terms.Blank 1) (named rdf_rest) (terms.Blank 2)
-    ∷ row (terms.Blank 2) (named rdf_first) (terms.Literal (codes "2.5") (xsd ++ codes "decimal") [])
+    ∷ row (terms.Blank 2) (named rdf_first) (terms.Literal (codes "2.5") (iri_of XsdDecimal) [])
     ∷ row (terms.Blank 2) (named rdf_rest) (named rdf_nil)
     ∷ row (terms.Blank 0) (named (codes "http://e.x/d/q#l")) (terms.Blank 1)
     ∷ [])
-unfolding rdf xsd is_excluded is_hex is_digit chars encode
+unfolding iri_of is_excluded is_hex is_digit chars encode
 six_triples = refl
 
 -- whether each token stands in a text at its place
@@ -83,7 +85,7 @@ abbrev number : ℕ → List ℕ → Object
 number at text = short integer (leaf at text)
 
 abbrev an_integer : List ℕ → Term
-an_integer text = terms.Literal text (xsd ++ codes "integer") []
+an_integer text = terms.Literal text (iri_of XsdInteger) []
 
 -- `_:a <urn:p> _:b , _:a .`: a label is one node wherever it stands
 labels : rows_of (
@@ -91,7 +93,7 @@ labels : rows_of (
     (predicates (verb 4 (codes "<urn:p>")) (several (Object.label (leaf 12 (codes "_:b"))) (leaf 16 (codes ",")) (one (Object.label (leaf 18 (codes "_:a"))))) done)) (leaf 22 (codes "."))
     ∷ [])
     ≡ Ok (row (terms.Blank 0) (named (codes "urn:p")) (terms.Blank 1) ∷ row (terms.Blank 0) (named (codes "urn:p")) (terms.Blank 0) ∷ [])
-unfolding rdf xsd is_excluded is_hex is_digit chars encode
+unfolding iri_of is_excluded is_hex is_digit chars encode
 labels = refl
 
 -- `<urn:s> <urn:p> 1 , q:o .`: a prefix that no directive names
@@ -100,7 +102,7 @@ prefix_missing : rows_of (
     (predicates (verb 8 (codes "<urn:p>")) (several (number 16 (codes "1")) (leaf 18 (codes ",")) (one (Object.named (prefixed (leaf 20 (codes "q:o")))))) done)) (leaf 24 (codes "."))
     ∷ [])
     ≡ Err (no_prefix 20)
-unfolding rdf xsd is_excluded is_hex is_digit chars encode
+unfolding iri_of is_excluded is_hex is_digit chars encode
 prefix_missing = refl
 
 -- `[ <urn:p> 1 ] <urn:q> 2 .`: a subject in brackets, with properties there and behind them
@@ -109,7 +111,7 @@ listed_subject : rows_of (
     (predicates (verb 14 (codes "<urn:q>")) (one (number 22 (codes "2"))) done)) (leaf 24 (codes "."))
     ∷ [])
     ≡ Ok (row (terms.Blank 0) (named (codes "urn:p")) (an_integer (codes "1")) ∷ row (terms.Blank 0) (named (codes "urn:q")) (an_integer (codes "2")) ∷ [])
-unfolding rdf xsd is_excluded is_hex is_digit chars encode
+unfolding iri_of is_excluded is_hex is_digit chars encode
 listed_subject = refl
 
 -- `<urn:s> <urn:p> [ <urn:q> [ <urn:r> 1 ] ] , 2 .`: inner triples come first
@@ -131,5 +133,5 @@ nested_brackets : rows_of (
     ∷ row (named (codes "urn:s")) (named (codes "urn:p")) (terms.Blank 0)
     ∷ row (named (codes "urn:s")) (named (codes "urn:p")) (an_integer (codes "2"))
     ∷ [])
-unfolding rdf xsd is_excluded is_hex is_digit chars encode
+unfolding iri_of is_excluded is_hex is_digit chars encode
 nested_brackets = refl

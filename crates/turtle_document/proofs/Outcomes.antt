@@ -26,15 +26,15 @@ unfolding encode
 mark_bytes = refl
 
 -- a place of a text
-abbrev IsPlace : List ℕ → ℕ → Type 0
+abbrev pub IsPlace : List ℕ → ℕ → Type 0
 IsPlace text at = (at ≤ length text) × IsUtf8 (drop at text)
 
-behind_mark : (text : List ℕ) → IsUtf8 text → take 1 (chars text) ≡ 0xFEFF ∷ [] → IsPlace text 3
-behind_mark text utf8 e =
+after_mark : (text : List ℕ) → IsUtf8 text → take 1 (chars text) ≡ 0xFEFF ∷ [] → IsPlace text 3
+after_mark text utf8 e =
     let c : Cut text 0 1 = cut text 0 1 (omega arith) utf8 in
     let three : bytes_of (take 1 (chars text)) ≡ 3 = ap bytes_of e ∙ mark_bytes in
-    let behind : 0 + bytes_of (take 1 (chars text)) ≡ 3 = omega arith in
-    subst (λ (n : ℕ). IsPlace text n) behind (c.within, c.utf8)
+    let three_on : 0 + bytes_of (take 1 (chars text)) ≡ 3 = omega arith in
+    subst (λ (n : ℕ). IsPlace text n) three_on (c.within, c.utf8)
 
 first_is : (c : ℕ) (cs : List ℕ) (b : Bool) → nat_eq 0xFEFF c ≡ b → starts_with nat_eq (c ∷ cs) (0xFEFF ∷ []) ≡ true → 0xFEFF ≡ c
 first_is c cs true q e = eqb-true 0xFEFF c q
@@ -44,9 +44,9 @@ first_is c cs false q e =
 place_if : (text : List ℕ) → IsUtf8 text → (cs : List ℕ) → take 1 (chars text) ≡ take 1 cs → (b : Bool) → starts_with nat_eq cs (0xFEFF ∷ []) ≡ b → IsPlace text (three_if b)
 place_if text utf8 cs same false e = (omega arith, utf8)
 place_if text utf8 [] same true e = cc
-place_if text utf8 (c ∷ cs) same true e = behind_mark text utf8 (same ∙ ap (λ x. x ∷ []) (sym (first_is c cs (nat_eq 0xFEFF c) refl e)))
+place_if text utf8 (c ∷ cs) same true e = after_mark text utf8 (same ∙ ap (λ x. x ∷ []) (sym (first_is c cs (nat_eq 0xFEFF c) refl e)))
 
-start_place : (text : List ℕ) → IsUtf8 text → IsPlace text (start_of text)
+pub start_place : (text : List ℕ) → IsUtf8 text → IsPlace text (start_of text)
 start_place text utf8 = place_if text utf8 (chars text) refl (starts_with nat_eq (chars text) (0xFEFF ∷ [])) refl
 
 -- ---- its outcome

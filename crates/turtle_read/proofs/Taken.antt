@@ -1,12 +1,9 @@
 -- How a reader and its lexer stand between two tokens of a text, and what the text is where they stop.
 use Rattle.std.proofs.Common.{◌≡◌, ◌≢◌, ℕ, ◌+◌, ◌-◌, ◌<◌, ◌≤◌, Bool, true, false, cond, List, [], ◌∷◌, length, take, drop, IsUtf8, Option, None, Some, Result, Ok, Err, refl, ap, sym, subst, ◌∙◌, true≢false, arith}
-use Rattle.std.specs.Prelude.{MatchOption, IsErrAnd, IfErr, nat_eq}
-use Rattle.std.specs.List.{starts_with}
-use Rattle.std.specs.Str.{chars}
-use Rattle.std.proofs.lemmas.Bool.{eqb-true}
-use lib.Utf8.{encode}
-use Rattle.turtle_grammar.specs.Tokens.{bytes_of, start_of}
+use Rattle.std.specs.Prelude.{MatchOption, IsErrAnd, IfErr}
+use Rattle.turtle_grammar.specs.Spans.{LiesFrom}
 use Rattle.turtle_grammar.specs.declared.token.Token.{Token}
+use Rattle.turtle_grammar.proofs.Spans.{rising_spans}
 use Rattle.turtle_lex.specs.declared.fault.LexFault.{LexFault}
 use Rattle.turtle_lex.specs.declared.fault.LexFault.TheVariants as lex
 use Rattle.turtle_lex.specs.Reading.{Reading, IsBegun, ComesNext, Steps, moved_on}
@@ -18,6 +15,7 @@ use Rattle.turtle_document.specs.Machine.{Config, config}
 use Rattle.turtle_document.specs.Machine.Move.{to}
 use Rattle.turtle_document.specs.declared.expected.Expected.{Expected}
 use Rattle.turtle_document.specs.declared.expected.Expected.TheVariants as expect
+use Rattle.turtle_document.proofs.Outcomes.{IsPlace, start_place}
 use Rattle.turtle_document.proofs.Reached.{is_between}
 use Rattle.turtle_document.proofs.Reading.{Stands, stands_first, stands_next, reads_stuck, reads_fault, reads_unclosed, reads_bad, reads_document, reads_early}
 use Rattle.turtle_read.specs.declared.fault.TurtleFault.{TurtleFault}
@@ -28,40 +26,6 @@ use Rattle.turtle_read.specs.Answers.{Tells}
 use Rattle.turtle_read.specs.Faults.{Stops, whole_of}
 use Rattle.turtle_read.specs.Moves.{move}
 use Rattle.turtle_read.specs.Tokens.{IsTokenOf, leaf_in}
-use Rattle.turtle_read.proofs.Tokens.{Cut, cut, Lies, lies}
-
--- ---- where a text begins
-
-abbrev three_if : Bool → ℕ
-three_if b = cond b 3 0
-
-mark_bytes : bytes_of (0xFEFF ∷ []) ≡ 3
-unfolding encode
-mark_bytes = refl
-
--- a place of a text
-abbrev pub IsPlace : List ℕ → ℕ → Type 0
-IsPlace text at = (at ≤ length text) × IsUtf8 (drop at text)
-
-behind_mark : (text : List ℕ) → IsUtf8 text → take 1 (chars text) ≡ 0xFEFF ∷ [] → IsPlace text 3
-behind_mark text utf8 e =
-    let c : Cut text 0 1 = cut text 0 1 (omega arith) utf8 in
-    let three : bytes_of (take 1 (chars text)) ≡ 3 = ap bytes_of e ∙ mark_bytes in
-    let behind : 0 + bytes_of (take 1 (chars text)) ≡ 3 = omega arith in
-    subst (λ (n : ℕ). IsPlace text n) behind (c.within, c.utf8)
-
-first_is : (c : ℕ) (cs : List ℕ) (b : Bool) → nat_eq 0xFEFF c ≡ b → starts_with nat_eq (c ∷ cs) (0xFEFF ∷ []) ≡ true → 0xFEFF ≡ c
-first_is c cs true q e = eqb-true 0xFEFF c q
-first_is c cs false q e =
-    let none : starts_with nat_eq (c ∷ cs) (0xFEFF ∷ []) ≡ false = rw q refl in absurd (true≢false (sym e ∙ none))
-
-place_if : (text : List ℕ) → IsUtf8 text → (cs : List ℕ) → take 1 (chars text) ≡ take 1 cs → (b : Bool) → starts_with nat_eq cs (0xFEFF ∷ []) ≡ b → IsPlace text (three_if b)
-place_if text utf8 cs same false e = (omega arith, utf8)
-place_if text utf8 [] same true e = cc
-place_if text utf8 (c ∷ cs) same true e = behind_mark text utf8 (same ∙ ap (λ x. x ∷ []) (sym (first_is c cs (nat_eq 0xFEFF c) refl e)))
-
-start_place : (text : List ℕ) → IsUtf8 text → IsPlace text (start_of text)
-start_place text utf8 = place_if text utf8 (chars text) refl (starts_with nat_eq (chars text) (0xFEFF ∷ [])) refl
 
 -- ---- between two tokens
 
@@ -107,11 +71,11 @@ is_token start text lexer c st t after h steps =
     record { place = lexer.at; within = h.place.0; utf8 = h.place.1; comes = (comes start text lexer c st (Ok (Some t)) after h steps).0 }
 
 token_lies : (start : State) (text : List ℕ) (lexer : Reading) (c : Config) (st : State) (t : Token) (after : Reading)
-    → IsAt start text lexer c st → Steps lexer (Ok (Some t)) after → Lies text lexer.at t
+    → IsAt start text lexer c st → Steps lexer (Ok (Some t)) after → LiesFrom text lexer.at t
 token_lies start text lexer c st t after h steps =
-    lies text lexer.at t h.place.0 h.place.1 (comes start text lexer c st (Ok (Some t)) after h steps).0
+    rising_spans text lexer.at t h.place.0 h.place.1 (comes start text lexer c st (Ok (Some t)) after h steps).0
 
--- behind a token less is left
+-- after a token less is left
 pub further : (start : State) (text : List ℕ) (lexer : Reading) (c : Config) (st : State) (t : Token) (after : Reading)
     → IsAt start text lexer c st → Steps lexer (Ok (Some t)) after → length text - after.at < length text - lexer.at
 further start text lexer c st t after h steps =
@@ -119,7 +83,7 @@ further start text lexer c st t after h steps =
     let moved : after.at ≡ t.upto = ap (λ (x : Reading). x.at) (comes start text lexer c st (Ok (Some t)) after h steps).1 in
     omega (arith, l.from, l.some, l.within, moved)
 
--- behind a token that leads on
+-- after a token that leads on
 pub at_next : (start : State) (text : List ℕ) (lexer : Reading) (c : Config) (st : State) (t : Token) (after : Reading) (d : Config) (new : State)
     → IsAt start text lexer c st → Steps lexer (Ok (Some t)) after → move c t.kind (leaf_in text t) st ≡ to d new → IsAt start text after d new
 unfolding move

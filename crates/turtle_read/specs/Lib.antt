@@ -3,7 +3,7 @@ pub mod Names
 pub mod Answers
 pub mod States
 pub mod Readers
-pub mod Vocabularies
+pub mod ShortForms
 pub mod Moves
 pub mod Tokens
 pub mod Recents

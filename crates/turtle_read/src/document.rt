@@ -19,8 +19,8 @@ use crate::lexeme::Lexeme;
 use crate::reader::Reader;
 use crate::recent::Recent;
 use crate::shared::SharedTexts;
+use crate::short_forms::ShortForms;
 use crate::token_fault::TokenFault;
-use crate::vocabulary::Vocabulary;
 use lv_base::Text;
 use std::alloc::Global;
 use std::mem;
@@ -57,7 +57,7 @@ fn read_text(alloc: Global, base: &Text, text: &str, store: &mut Store) -> Resul
     let base = base.clone()?;
     let shorts = SharedTexts::new(alloc)?;
     let recent = Recent::new(alloc)?;
-    let words = Vocabulary::new(alloc)?;
+    let words = ShortForms::new(alloc)?;
     let before = store.count();
     let hashing = store.hashing();
     let taken = mem::replace(store, Store::new(alloc));

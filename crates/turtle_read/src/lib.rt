@@ -15,11 +15,11 @@ mod object;
 mod reader;
 mod recent;
 mod shared;
+mod short_forms;
 mod slot;
 mod string;
 mod token_fault;
 mod verb;
-mod vocabulary;
 
 pub use document::read;
 pub use fault::TurtleFault;

@@ -8,8 +8,8 @@ use crate::lexeme::Lexeme;
 use crate::reader::Reader;
 use crate::recent::Recurs;
 use crate::shared::SharedTexts;
+use crate::short_forms::ShortForms;
 use crate::token_fault::TokenFault;
-use crate::vocabulary::Vocabulary;
 use lv_base::NoMemory;
 use std::alloc::Global;
 use triple_store::Term;
@@ -20,7 +20,7 @@ use turtle_grammar::TokenKind;
 #[inline(always)]
 fn short_term(
     alloc: Global,
-    words: &Vocabulary,
+    words: &ShortForms,
     shorts: &mut SharedTexts,
     token: Lexeme<'_>,
 ) -> Result<Option<Term>, NoMemory>

@@ -4,8 +4,8 @@ use crate::environment::Environment;
 use crate::holes::Holes;
 use crate::lexeme::Lexeme;
 use crate::shared::SharedTexts;
+use crate::short_forms::ShortForms;
 use crate::token_fault::TokenFault;
-use crate::vocabulary::Vocabulary;
 use std::alloc::Global;
 use std::mem;
 use triple_store::Store;
@@ -16,7 +16,7 @@ use turtle_grammar::TokenKind;
 #[derive(Drop)]
 pub struct Reader {
     pub(crate) alloc: Global,
-    pub(crate) words: Vocabulary,
+    pub(crate) words: ShortForms,
     // numbers and truth values
     pub(crate) shorts: SharedTexts,
     pub(crate) environment: Environment,
@@ -37,7 +37,7 @@ impl Reader {
     /// A reader before a document's first token.
     pub fn new(
         alloc: Global,
-        words: Vocabulary,
+        words: ShortForms,
         shorts: SharedTexts,
         environment: Environment,
     ) -> Self

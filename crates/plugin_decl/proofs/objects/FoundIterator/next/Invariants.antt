@@ -1,6 +1,6 @@
 use Rattle.std.proofs.Common.{◌≡◌, map, filter, length}
 use Rattle.triple_store.specs.declared.term.Triple.{Triple}
-use Rattle.plugin_decl.specs.Vocabulary.{names}
+use Rattle.plugin_decl.specs.Naming.{names}
 use Rattle.plugin_decl.specs.Objects.{object}
 use Rattle.plugin_decl.proofs.objects.FoundIterator.next.Given as goal
 

@@ -1,7 +1,7 @@
 use Rattle.std.proofs.Common.{inr, sym, subst}
 use Rattle.std.specs.Prelude.{not}
 use Rattle.plugin_decl.specs.declared.declaration.DeclFault.TheVariants.{Feature}
-use Rattle.plugin_decl.specs.declared.vocabulary.Word.TheVariants.{Lv2RequiredFeature}
+use Rattle.vocabulary.specs.declared.word.Word.TheVariants.{Lv2RequiredFeature}
 use Rattle.plugin_decl.specs.Features.{is_supported}
 use Rattle.plugin_decl.specs.Objects.{objects_of}
 use Rattle.plugin_decl.specs.Rules.{IsFirstBroken}

@@ -1,7 +1,7 @@
 use Rattle.std.proofs.Common.{inr, sym, subst}
 use Rattle.std.specs.Prelude.{not}
 use Rattle.plugin_decl.specs.declared.declaration.DeclFault.TheVariants.{RequiredOption}
-use Rattle.plugin_decl.specs.declared.vocabulary.Word.TheVariants.{OptionsRequiredOption}
+use Rattle.vocabulary.specs.declared.word.Word.TheVariants.{OptionsRequiredOption}
 use Rattle.plugin_decl.specs.Features.{is_given}
 use Rattle.plugin_decl.specs.Objects.{objects_of}
 use Rattle.plugin_decl.specs.Rules.{IsFirstBroken}

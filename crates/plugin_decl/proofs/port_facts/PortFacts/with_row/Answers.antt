@@ -1,7 +1,7 @@
 use Rattle.std.proofs.Common.{[], ◌∷◌}
 use Rattle.std.specs.Option.{option_copied}
-use Rattle.plugin_decl.specs.declared.vocabulary.Word.TheVariants.{RdfType, Lv2Index, Lv2Symbol, Lv2Name, Lv2InputPort, Lv2OutputPort, Lv2AudioPort, Lv2CvPort, Lv2ControlPort, Lv2PortProperty, Lv2ConnectionOptional, Lv2Designation, Lv2Control, Lv2Default, Lv2Minimum, Lv2Maximum, AtomAtomPort, AtomSupports, PatchMessage, RszMinimumSize}
-use Rattle.plugin_decl.specs.Vocabulary.{names}
+use Rattle.vocabulary.specs.declared.word.Word.TheVariants.{RdfType, Lv2Index, Lv2Symbol, Lv2Name, Lv2InputPort, Lv2OutputPort, Lv2AudioPort, Lv2CvPort, Lv2ControlPort, Lv2PortProperty, Lv2ConnectionOptional, Lv2Designation, Lv2Control, Lv2Default, Lv2Minimum, Lv2Maximum, AtomAtomPort, AtomSupports, PatchMessage, RszMinimumSize}
+use Rattle.plugin_decl.specs.Naming.{names}
 use Rattle.plugin_decl.specs.PortFacts.{told}
 use Rattle.plugin_decl.specs.Values.{is_literal, is_untagged}
 use Rattle.plugin_decl.proofs.PortFacts.{next-two, next-any, next-found}

@@ -3,7 +3,7 @@ use Rattle.std.specs.Prelude.{◌≡◌, ℕ, List, []}
 use Rattle.turtle_document.specs.Vocabulary.{rdf_type, rdf_first, rdf_rest, rdf_nil, rdf_lang_string, xsd_string, datatype_of}
 use Rattle.turtle_grammar.specs.Tree.Shorthand.{integer as integers, decimal as decimals, double_number, true_word}
 
-pub record IsVocabulary (kind first rest nil tagged string integer decimal double boolean no_tag : List ℕ) : Type 0 where
+pub record AreShortForms (kind first rest nil tagged string integer decimal double boolean no_tag : List ℕ) : Type 0 where
   pub is_kind : kind ≡ rdf_type
   pub is_first : first ≡ rdf_first
   pub is_rest : rest ≡ rdf_rest
