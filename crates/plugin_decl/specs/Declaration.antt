@@ -1,5 +1,5 @@
 -- What is declared of a plug-in: each field by the triples whose subject is its URI (LV2 core, worker, state and patch; DOAP).
-use Rattle.std.specs.Prelude.{ℕ, Bool, ◌&&◌, ◌||◌, nat_eq, List, [], map, length, find, Option, Some, unwrap_or}
+use Rattle.std.specs.Prelude.{ℕ, Bool, ◌&&◌, ◌||◌, nat_eq, List, [], map, length, find, Option, None, Some, unwrap_or, if◌then◌else◌}
 use Rattle.std.specs.List.{filter_map, range_with_len}
 use Rattle.std.specs.Option.{option_and_then, option_eq}
 use Rattle.triple_store.specs.declared.term.Term.{Term}
@@ -7,9 +7,10 @@ use Rattle.triple_store.specs.declared.term.Term.TheVariants.{Iri}
 use Rattle.triple_store.specs.declared.term.Triple.{Triple}
 use Rattle.plugin_decl.specs.declared.declaration.Decl.{Decl}
 use Rattle.plugin_decl.specs.declared.declaration.Port.{Port}
+use Rattle.plugin_decl.specs.declared.declaration.Version.{Version}
 use Rattle.vocabulary.specs.declared.word.Word.{Word}
-use Rattle.vocabulary.specs.declared.word.Word.TheVariants.{Lv2Port, Lv2MinorVersion, Lv2MicroVersion, Lv2RequiredFeature, Lv2OptionalFeature, Lv2ExtensionData, WorkInterface, StateInterface, StateThreadSafeRestore, PatchReadable, PatchWritable, DoapName}
-use Rattle.plugin_decl.specs.Objects.{objects_of, has, first}
+use Rattle.vocabulary.specs.declared.word.Word.TheVariants.{Lv2Plugin, Lv2Port, Lv2MinorVersion, Lv2MicroVersion, Lv2RequiredFeature, Lv2OptionalFeature, Lv2ExtensionData, WorkInterface, StateInterface, StateThreadSafeRestore, PatchReadable, PatchWritable, DoapName}
+use Rattle.plugin_decl.specs.Objects.{objects_of, has, is_a, first}
 use Rattle.plugin_decl.specs.Values.{iri_in, name_in, natural_in}
 use Rattle.plugin_decl.specs.Ports.{index_of, port_of}
 
@@ -44,6 +45,14 @@ stated_version rows plugin word = option_and_then (natural_in 4294967295) (first
 -- and 0 if not
 abbrev pub version : List Triple → Term → Word → ℕ
 version rows plugin word = unwrap_or (stated_version rows plugin word) 0
+
+-- the version of a URI, if it is an lv2:Plugin
+unfoldable pub version_of : List Triple → List ℕ → Option Version
+version_of rows uri =
+    if is_a rows (Iri uri) Lv2Plugin then Some (record {
+      minor = version rows (Iri uri) Lv2MinorVersion;
+      micro = version rows (Iri uri) Lv2MicroVersion;
+    }) else None
 
 -- a feature is required or optional
 abbrev pub has_feature : List Triple → Term → Word → Bool

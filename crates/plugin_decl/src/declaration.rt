@@ -27,6 +27,13 @@ pub struct Decl {
     pub writes: Items<Text>,
 }
 
+/// The version of a plug-in: `lv2:minorVersion` and `lv2:microVersion`, 0 where there is no such number.
+#[derive(Clone, Copy)]
+pub struct Version {
+    pub minor: u32,
+    pub micro: u32,
+}
+
 /// What is declared of a port.
 #[derive(Drop)]
 pub struct Port {

@@ -18,7 +18,7 @@ mod port_rules;
 mod reader;
 mod values;
 
-pub use declaration::{Decl, DeclFault, Port, PortKind};
+pub use declaration::{Decl, DeclFault, Port, PortKind, Version};
 pub use message_ports::{patch_port, reply_port};
 pub use options::{Options, options_of};
-pub use reader::{declare, one_answer, some_answer};
+pub use reader::{declare, one_answer, some_answer, version_of};

@@ -4,7 +4,7 @@ ghost use Rattle.triple_store.specs.declared.term.Term.{Term};
 ghost use Rattle.triple_store.specs.declared.term.Term.TheVariants.{Iri};
 ghost use Rattle.triple_store.specs.declared.term.Triple.{Triple};
 ghost use Rattle.plugin_decl.specs.declared.declaration.DeclFault.{DeclFault};
-ghost use Rattle.plugin_decl.specs.Declaration.{stated_version, version, extends, has_feature, is_safe, iris_of, ports_of, declared_ports, declaration_of};
+ghost use Rattle.plugin_decl.specs.Declaration.{stated_version, version, extends, has_feature, is_safe, iris_of, ports_of, declared_ports, declaration_of, version_of};
 ghost use Rattle.plugin_decl.specs.Ports.{port_of};
 ghost use Rattle.plugin_decl.specs.PortFacts.{breaches_of};
 ghost use Rattle.plugin_decl.specs.Values.{iri_in};
@@ -14,9 +14,9 @@ ghost use Rattle.plugin_decl.specs.Answer.{IsDeclOrNoMemory, IsFaultOrNoMemory};
 ghost use Rattle.plugin_decl.specs.Valid.{IsValid};
 
 use crate::breaches::Breaches;
-use crate::declaration::{Decl, DeclFault, Port};
+use crate::declaration::{Decl, DeclFault, Port, Version};
 use crate::indexes::MOST_PORTS;
-use crate::objects::{Found, first, has, objects};
+use crate::objects::{Found, first, has, is_a, objects};
 use crate::plugin::Plugin;
 use crate::port::copy;
 use crate::port_facts::PortFacts;
@@ -47,6 +47,42 @@ pub fn declare(alloc: Global, store: &Store, uri: &Text, block: u32) -> Result<D
         block,
     };
     plugin.declare(alloc, uri)
+}
+
+/// The version with which the triples of a store declare a plug-in, whatever rules its declaration breaks: `None` exactly where the
+/// URI isn't an `lv2:Plugin`.
+pub fn version_of(store: &Store, uri: &Text) -> Result<Option<Version>, NoMemory>
+    ensures { IfOk result (λ version. version ≡ version_of store.now uri.now) }
+{
+    let term = iri_of(uri)?;
+    Ok(declared_version(store, &term))
+}
+
+#[tactic(auto, unfolding(crate::specs::Declaration::version_of))]
+fn declared_version(store: &Store, plugin: &Term) -> Option<Version>
+    ensures { (uri : List ℕ) → plugin.now ≡ Iri uri → result ≡ version_of store.now uri }
+{
+    if !is_a(store, plugin, Word::Lv2Plugin) {
+        return None;
+    }
+    Some(Version {
+        minor: version(store, plugin, Word::Lv2MinorVersion),
+        micro: version(store, plugin, Word::Lv2MicroVersion),
+    })
+}
+
+/// The first `lv2:minorVersion` or `lv2:microVersion`, if it is a number that fits.
+#[tactic(auto, unfolding(crate::specs::Declaration::stated_version))]
+fn stated_version(store: &Store, plugin: &Term, word: Word) -> Option<u32>
+    ensures { result ≡ stated_version store.now plugin.now word }
+{
+    natural(u32::MAX, first(store, plugin, word)?)
+}
+
+fn version(store: &Store, plugin: &Term, word: Word) -> u32
+    ensures { result ≡ version store.now plugin.now word }
+{
+    stated_version(store, plugin, word).unwrap_or(0)
 }
 
 /// A law, and no step of a program: the triples of a URI have at most one answer.
@@ -169,8 +205,8 @@ impl<'a> Plugin<'a> {
         Ok(Decl {
             uri: uri.clone()?,
             name,
-            minor: self.version(Word::Lv2MinorVersion),
-            micro: self.version(Word::Lv2MicroVersion),
+            minor: version(self.store, self.term, Word::Lv2MinorVersion),
+            micro: version(self.store, self.term, Word::Lv2MicroVersion),
             ports,
             worker: self.extends(Word::WorkInterface),
             state: self.extends(Word::StateInterface),
@@ -178,20 +214,6 @@ impl<'a> Plugin<'a> {
             reads,
             writes,
         })
-    }
-
-    /// The first `lv2:minorVersion` or `lv2:microVersion`, if it is a number that fits.
-    #[tactic(auto, unfolding(crate::specs::Declaration::stated_version))]
-    fn stated_version(&self, word: Word) -> Option<u32>
-        ensures { result ≡ stated_version self.now.store.now self.now.term.now word }
-    {
-        natural(u32::MAX, first(self.store, self.term, word)?)
-    }
-
-    fn version(&self, word: Word) -> u32
-        ensures { result ≡ version self.now.store.now self.now.term.now word }
-    {
-        self.stated_version(word).unwrap_or(0)
     }
 
     /// Whether it has an extension's interface.
