@@ -12,11 +12,11 @@ use Rattle.atom_forge.specs.Forged.{Forged, opening, with_piece, with_container,
 use Rattle.atom_forge.specs.Laws.{filled, ContainerIsAtom, BackIsBefore, PartIsPut}
 use Rattle.atom_forge.proofs.Levels.{begins-last}
 
-front : {A : Type 0} (n : ℕ) (xs ys : List A) → length xs ≡ n → take n (xs ++ ys) ≡ xs
+pub front : {A : Type 0} (n : ℕ) (xs ys : List A) → length xs ≡ n → take n (xs ++ ys) ≡ xs
 front n xs ys e = take-append-le n xs ys (omega (arith, e)) ∙ take_all n xs (omega (arith, e))
 
 -- a header that stands behind some bytes gets the size of what stands behind it
-sized_is : (before body : List ℕ) (kind : ℕ) → sized (before ++ (u32 0 ++ (u32 kind ++ body))) (length before) ≡ before ++ framed kind body
+pub sized_is : (before body : List ℕ) (kind : ℕ) → sized (before ++ (u32 0 ++ (u32 kind ++ body))) (length before) ≡ before ++ framed kind body
 sized_is before body kind =
     let rest = u32 kind ++ body in
     let all = before ++ (u32 0 ++ rest) in
@@ -68,7 +68,7 @@ back_is_before mark forge bytes levels waits h =
     ∙ ap (λ (ls : List Level). record { room = forge.room; bytes = forge.bytes; levels = ls; waits = mark.waits }) (front mark.levels forge.levels levels (sym h.levels))
     ∙ ap (λ (w : Bool). record { room = forge.room; bytes = forge.bytes; levels = forge.levels; waits = w }) h.waits
 
-inner_laid : (levels : List Level) (bytes : List ℕ) → 0 < length levels → laid levels bytes ≡ with_padding bytes
+pub inner_laid : (levels : List Level) (bytes : List ℕ) → 0 < length levels → laid levels bytes ≡ with_padding bytes
 inner_laid levels bytes lt =
     ap (λ (outer : Bool). if outer then bytes else with_padding bytes) (ne_eqb (length levels) 0 (λ e. omega (arith, lt, e)))
 

@@ -1,18 +1,18 @@
 -- The containers that are open, outermost first.
-use Rattle.std.proofs.Common.{◌≡◌, ℕ, ◌+◌, ◌-◌, ◌≤◌, Bool, false, sym, ap, ◌∙◌, drop, List, [], ◌∷◌, ◌++◌, length, take, refl, arith}
+use Rattle.std.proofs.Common.{◌≡◌, ℕ, ◌+◌, ◌-◌, Bool, false, sym, ap, ◌∙◌, drop, List, [], ◌∷◌, ◌++◌, length, take, refl, Some}
 use Rattle.atom_forge.specs.declared.level.Level.{Level}
 use Rattle.atom_core.specs.Spelling.{u32}
-use Rattle.atom_forge.specs.Forged.{Forged, begins, sized, closed}
-use Rattle.atom_forge.specs.Forged.{HaveHeaders}
+use Rattle.atom_forge.specs.Forged.{Forged, innermost, begins, sized, closed}
 
 pub begins-last : (levels : List Level) (l : Level) → begins (levels ++ l ∷ []) ≡ l.at
 begins-last [] l = refl
 begins-last (m ∷ []) l = refl
 begins-last (m ∷ (n ∷ levels)) l = begins-last (n ∷ levels) l
 
--- more bytes stand behind the headers
-pub headers-more : (levels : List Level) (a b : ℕ) → a ≤ b → HaveHeaders a levels → HaveHeaders b levels
-headers-more levels a b le h = λ k d lt. omega (arith, le, h k d lt)
+pub innermost-last : (levels : List Level) (l : Level) → innermost (levels ++ l ∷ []) ≡ Some l.holds
+innermost-last [] l = refl
+innermost-last (m ∷ []) l = refl
+innermost-last (m ∷ (n ∷ levels)) l = innermost-last (n ∷ levels) l
 
 -- the innermost container is closed
 pub closes : (old : Forged) (levels : List Level) (l : Level) (bytes : List ℕ) (size : ℕ) (waits : Bool) → old.levels ≡ levels ++ l ∷ []

@@ -1,3 +1,4 @@
 pub mod Levels
 pub mod Pieces
 pub mod Containers
+pub mod Stacks

@@ -1,13 +1,14 @@
 -- What a forge holds, and what its calls make of it.
-use Rattle.std.specs.Prelude.{◌≡◌, ℕ, ◌+◌, ◌-◌, ◌<◌, ◌≤◌, ◌==◌, MatchBool, if◌then◌else◌, Bool, true, false, List, [], ◌∷◌, ◌++◌, length, take, drop, Option, Some, None, Result, MatchResult}
-use Rattle.std.specs.List.{All}
-use Rattle.atom_core.specs.Value.{Value}
-use Rattle.atom_core.specs.Fits.{Fits}
-use Rattle.atom_core.specs.Spelling.{u32, framed, with_padding, kind_of, body_of}
+use Rattle.std.specs.Prelude.{◌≡◌, ℕ, ◌+◌, ◌-◌, ◌<◌, ◌≤◌, ◌==◌, MatchBool, ◌⊎◌, if◌then◌else◌, Bool, true, false, List, [], ◌∷◌, ◌++◌, length, take, drop, Option, Some, None, Result, MatchResult}
+use Rattle.atom_core.specs.Value.{Container, Lead, Value}
+use Rattle.atom_core.specs.Fits.{Fits, LeadFits}
+use Rattle.atom_core.specs.Spelling.{u32, lead_bytes, framed, with_padding, kind_of, body_of}
+use Rattle.atom_core.specs.Answer.{IsAtom}
 use Rattle.atom_forge.specs.declared.level.Holds.{Holds}
 use Rattle.atom_forge.specs.declared.level.Level.{Level}
 use Rattle.atom_forge.specs.declared.mark.Mark.{Mark}
 use Rattle.atom_forge.specs.declared.room.NoRoom.{NoRoom}
+use Rattle.atom_forge.specs.Opened.{Opened, OpensAs, AreOpened, form_in, beginning, stack_bytes, stack_levels, waits_in}
 
 -- how many bytes there may be, those that are finished, the containers that are open, outermost first, and whether a key or an event waits
 -- for its atom
@@ -76,13 +77,22 @@ closed forge = record {
   waits = false;
 }
 
--- the header of each of these containers is finished
-abbrev pub HaveHeaders : ℕ → List Level → Type 0
-HaveHeaders bytes levels = All (λ l. l.at + 8 ≤ bytes) levels
+-- one atom is finished, and no container is open
+pub record IsFinished (forge : Forged) : Type 0 where
+  pub levels : forge.levels ≡ []
+  pub waits : forge.waits ≡ false
+  pub atom : IsAtom forge.bytes
 
--- a forge can hold this
+-- these containers are open, innermost first, and nothing else is there
+pub record HasOpened (forge : Forged) (stack : List Opened) : Type 0 where
+  pub are : AreOpened stack
+  pub bytes : forge.bytes ≡ stack_bytes stack
+  pub levels : forge.levels ≡ stack_levels stack
+  pub waits : forge.waits ≡ waits_in stack
+
+-- what a forge holds at every moment: one finished atom, or containers that are open within each other, perhaps none
 abbrev pub IsForged : Forged → Type 0
-IsForged forge = HaveHeaders (length forge.bytes) forge.levels
+IsForged forge = ∥ (IsFinished forge ⊎ ((stack : List Opened) × HasOpened forge stack)) ∥₁
 
 -- what a forge held where its mark is
 abbrev pub up_to : Mark → Forged → Forged
@@ -91,6 +101,14 @@ up_to mark forge = record { room = forge.room; bytes = take mark.len forge.bytes
 -- this is the body of a value of this type, with no more than n containers within each other
 abbrev pub IsBodyOf : ℕ → ℕ → List ℕ → Type 0
 IsBodyOf n kind body = ∥ ((value : Value) × (kind_of value ≡ kind) × (body_of value ≡ body) × Fits n value) ∥₁
+
+-- these bytes are a key or a time that the innermost container takes
+abbrev pub IsLead : Forged → List ℕ → Type 0
+IsLead forge bytes = (holds : Holds) × (lead : Lead) × TakesLead forge holds × LeadFits (form_in holds) lead × (bytes ≡ lead_bytes lead)
+
+-- these bytes begin a container that holds this
+abbrev pub Begins : Holds → List ℕ → Type 0
+Begins holds bytes = (container : Container) × OpensAs holds container × (bytes ≡ beginning container)
 
 -- a call puts a piece, if there is room for it, and else changes nothing
 abbrev pub Puts : Forged → List ℕ → Forged → Result (Unit {0}) NoRoom → Forged → Type 0

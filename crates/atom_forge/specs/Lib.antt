@@ -1,3 +1,4 @@
+pub mod Opened
 pub mod Forged
 pub mod Inside
 pub mod Laws

@@ -2,9 +2,9 @@ ghost use Rattle.std.specs.Prelude.{◌≡◌, ◌-◌, ◌^◌, ◌<◌, ◌++�
 ghost use Rattle.atom_core.specs.Value.{int, long, fixed, urid, string, plain, keyed, timed, object, sequence};
 ghost use Rattle.atom_core.specs.Spelling.{lead_bytes};
 ghost use Rattle.atom_core.specs.Fits.{IsText};
-ghost use Rattle.atom_core.specs.Answer.{IsAtom, most_containers};
+ghost use Rattle.atom_core.specs.Answer.{most_containers};
 ghost use Rattle.atom_forge.specs.declared.level.Holds.TheVariants.{Properties, Events};
-ghost use Rattle.atom_forge.specs.Forged.{TakesAtom, TakesLead, IsComplete, opening, with_piece, with_container, closed, up_to, IsForged, IsBodyOf, Puts, PutsBody, PutsAtom};
+ghost use Rattle.atom_forge.specs.Forged.{TakesAtom, TakesLead, IsComplete, opening, with_piece, with_container, closed, up_to, IsForged, IsBodyOf, IsLead, Begins, Puts, PutsBody, PutsAtom};
 
 use crate::level::{Holds, Level};
 use crate::mark::Mark;
@@ -88,7 +88,7 @@ impl Forge {
     /// The atom that is finished.
     pub fn view(&self) -> AtomView<'_>
         requires whole { self.now.levels ≡ [] }
-        requires atom { ∥ IsAtom self.now.bytes ∥₁ }
+        requires one { 0 < length self.now.bytes }
         ensures { result.bytes.now ≡ self.now.bytes }
     {
         AtomView::over(self.bytes.as_slice())
@@ -96,7 +96,8 @@ impl Forge {
 
     /// Writes an atom whose body is in two pieces.
     fn atom(&mut self, kind: u32, body: &[u8], rest: &[u8]) -> Result<(), NoRoom>
-        requires { TakesAtom self.old }
+        requires takes { TakesAtom self.old }
+        requires body { length (body.now ++ rest.now) < 2 ^ 32 → IsBodyOf (most_containers - length self.old.levels) kind (body.now ++ rest.now) }
         ensures { PutsBody self.old kind (body.now ++ rest.now) result self.new }
     {
         let left = self.room - self.bytes.len();
@@ -174,7 +175,8 @@ impl Forge {
 
     /// Opens a container, with two numbers before its parts.
     fn container(&mut self, kind: u32, holds: Holds, first: u32, second: u32) -> Result<(), NoRoom>
-        requires { TakesAtom self.old }
+        requires takes { TakesAtom self.old }
+        requires begins { Begins holds (opening kind first second) }
         ensures { Puts self.old (opening kind first second) (with_container self.old holds (opening kind first second)) result self.new }
     {
         if self.room - self.bytes.len() < 16 {
@@ -208,6 +210,7 @@ impl Forge {
 
     /// Writes what stands before the atom of a part.
     fn lead(&mut self, first: &[u8], second: &[u8]) -> Result<(), NoRoom>
+        requires { IsLead self.old (first.now ++ second.now) }
         ensures { Puts self.old (first.now ++ second.now) (with_piece self.old (first.now ++ second.now) true) result self.new }
     {
         let left = self.room - self.bytes.len();

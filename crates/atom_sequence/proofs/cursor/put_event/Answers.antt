@@ -2,12 +2,12 @@ use Rattle.std.proofs.Common.{◌≡◌, ◌-◌, ◌<◌, ◌≤◌, false, ℕ
 use Rattle.std.specs.Int.{w64}
 use Rattle.std.proofs.lemmas.Int.{to_z-of_z}
 use Rattle.std.proofs.Math.Bridge.{le_prop}
-use Rattle.std.proofs.Math.Logic.{∥∥₁_elim, ∥∥₁_map}
+use Rattle.std.proofs.Math.Logic.{∥∥₁_elim, ∥∥₁_map, ∥∥₁_prop}
 use Rattle.atom_core.specs.Value.{timed, Value}
 use Rattle.atom_core.specs.Spelling.{framed, part_of}
 use Rattle.atom_core.specs.Fits.{Fits}
 use Rattle.atom_core.specs.Answer.{most_containers}
-use Rattle.atom_forge.specs.Forged.{Forged, left, with_piece, up_to}
+use Rattle.atom_forge.specs.Forged.{Forged, IsForged, left, with_piece, up_to}
 use Rattle.atom_forge.specs.Laws.{IsMarkOf}
 use Rattle.atom_sequence.specs.Event.{Event, size_of}
 use Rattle.atom_sequence.specs.Cursors.{IsAtomOf}
@@ -21,6 +21,15 @@ raw-requires-clause-body c =
     ∥∥₁_map c.requires.atom (λ a.
     let spells = spells_of c.args.atom.bytes.now a.0 a.1 in
     (a.0, sym (c.kind.ensures.value a.0 spells), sym (c.body.ensures.value a.0 spells), subst (λ (n : ℕ). Fits n a.0) deep (a.1.0)))
+
+pub back-requires : goal.back-requires
+back-requires c =
+    ∥∥₁_elim c.requires.atom ∥∥₁_prop (λ a.
+    let e : Event = record { time = to_z w64 (of_z w64 c.args.time); value = a.0 } in
+    let put : TimePut c.args.into.now c.event.new.self e _ = record { one = c.requires.awaits.level; room = c.in_ok-event.ensures.0; new_is = c.in_ok-event.ensures.1 } in
+    let mark : IsMarkOf c.mark-mark.result c.args.into.now = record { len = c.mark-mark.ensures.len; levels = c.mark-mark.ensures.levels; waits = c.mark-mark.ensures.waits } in
+    subst IsForged (sym (ap (up_to c.mark-mark.result) c.in-Err.ensures.1 ∙ time_back c.args.into.now c.event.new.self e _ c.mark-mark.result put mark))
+    c.mark-mark.ensures.forged)
 
 pub returns-in-Err-clause-event : goal.returns-in-Err-clause-event
 returns-in-Err-clause-event c = λ value is.
