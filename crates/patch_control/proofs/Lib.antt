@@ -1,0 +1,9 @@
+pub mod Leading
+pub mod Gathered
+pub mod Saying
+pub mod Orders
+pub mod Filling
+pub mod Rows
+pub mod Objects
+pub mod Nested
+pub mod ObjectRead

@@ -1,0 +1,45 @@
+use Rattle.std.proofs.Common.{◌∙◌, [], length, arith}
+use Rattle.std.proofs.lemmas.Result.{err_from_is_err_and}
+use Rattle.atom_core.specs.Spelling.{parts_of, atom_of}
+use Rattle.patch_control.specs.Written.{rows_in, body_with}
+use Rattle.patch_control.proofs.Filling.{tries_fail, object_fails, begins, filling_lead, filling_levels, filling_complete, filled_more, filling_fails, filling_closes, object_length}
+use Rattle.patch_control.proofs.writer.put_body.Goals as goal
+
+pub returns-in_err-object : goal.returns-in_err-object
+returns-in_err-object c =
+    let p = err_from_is_err_and c.from_residual.result c.from_residual.ensures.1 in
+    tries_fail c.args.f.now c.object.new.self (atom_of (body_with c.args.rows.now)) c.from_residual.result _ p.1
+    (object_fails c.args.f.now c.object.new.self 0 0 (rows_in c.args.rows.now) c.in_err-object.ensures.0 c.in_err-object.ensures.1)
+
+pub put_rows-requires-clause-lead : goal.put_rows-requires-clause-lead
+put_rows-requires-clause-lead c =
+    filling_lead c.args.f.now c.object.new.self 0 0 [] (begins c.args.f.now c.object.new.self 0 0 c.in_ok-object.ensures.0 c.in_ok-object.ensures.1)
+
+pub put_rows-requires-clause-deep : goal.put_rows-requires-clause-deep
+put_rows-requires-clause-deep c =
+    omega (
+      arith,
+      c.requires.deep,
+      filling_levels c.args.f.now c.object.new.self 0 0 [] (begins c.args.f.now c.object.new.self 0 0 c.in_ok-object.ensures.0 c.in_ok-object.ensures.1),
+    )
+
+pub returns-in_err-put_rows : goal.returns-in_err-put_rows
+returns-in_err-put_rows c =
+    let p = err_from_is_err_and c.from_residual-in_err-put_rows.result c.from_residual-in_err-put_rows.ensures.1 in
+    let h = begins c.args.f.now c.object.new.self 0 0 c.in_ok-object.ensures.0 c.in_ok-object.ensures.1 in
+    tries_fail c.args.f.now c.put_rows.new.f (atom_of (body_with c.args.rows.now)) c.from_residual-in_err-put_rows.result _ p.1
+    (filling_fails c.args.f.now c.object.new.self c.put_rows.new.f 0 0 [] (parts_of (rows_in c.args.rows.now)) (length (atom_of (body_with c.args.rows.now))) h c.in_err-put_rows.ensures.0
+    c.in_err-put_rows.ensures.1 (omega (arith, object_length 0 0 (rows_in c.args.rows.now))))
+
+pub pop-requires : goal.pop-requires
+pop-requires c =
+    let h = begins c.args.f.now c.object.new.self 0 0 c.in_ok-object.ensures.0 c.in_ok-object.ensures.1 in
+    filling_complete c.args.f.now c.put_rows.new.f 0 0 (parts_of (rows_in c.args.rows.now))
+    (filled_more c.args.f.now c.object.new.self c.put_rows.new.f 0 0 [] (parts_of (rows_in c.args.rows.now)) h c.in_ok-put_rows.ensures.0 c.in_ok-put_rows.ensures.1)
+
+pub returns : goal.returns
+returns c =
+    let h = begins c.args.f.now c.object.new.self 0 0 c.in_ok-object.ensures.0 c.in_ok-object.ensures.1 in
+    let done = filling_closes c.args.f.now c.put_rows.new.f 0 0 (rows_in c.args.rows.now)
+    (filled_more c.args.f.now c.object.new.self c.put_rows.new.f 0 0 [] (parts_of (rows_in c.args.rows.now)) h c.in_ok-put_rows.ensures.0 c.in_ok-put_rows.ensures.1) in
+    (done.0, c.pop.ensures ∙ done.1)
