@@ -13,6 +13,14 @@ is_sound Control = false
 is_sound Atom = false
 is_sound Unsupported = false
 
+-- of samples that are heard: an audio port, and no CV port
+abbrev pub is_audio : PortKind → Bool
+is_audio Audio = true
+is_audio Cv = false
+is_audio Control = false
+is_audio Atom = false
+is_audio Unsupported = false
+
 abbrev pub is_control : PortKind → Bool
 is_control Control = true
 is_control Audio = false
@@ -38,6 +46,9 @@ has kind input ports i = port_is kind input (slice_get ports i)
 
 abbrev pub has_sound : Bool → List Port → ℕ → Bool
 has_sound input ports i = has is_sound input ports i
+
+abbrev pub has_audio : Bool → List Port → ℕ → Bool
+has_audio input ports i = has is_audio input ports i
 
 abbrev pub has_control : Bool → List Port → ℕ → Bool
 has_control input ports i = has is_control input ports i

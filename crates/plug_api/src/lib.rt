@@ -10,6 +10,7 @@ mod front;
 mod ins;
 mod outs;
 mod ports;
+mod roles;
 mod scheduling;
 
 pub use back::Back;
@@ -20,4 +21,5 @@ pub use front::Front;
 pub use ins::Ins;
 pub use outs::Outs;
 pub use ports::Ports;
+pub use roles::{has_atom, has_audio, has_control};
 pub use scheduling::{Respond, Sched};

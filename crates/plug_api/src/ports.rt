@@ -1,8 +1,8 @@
-ghost use Rattle.std.specs.Prelude.{◌≡◌, ◌<◌, [], true, false, length, IsTrue};
+ghost use Rattle.std.specs.Prelude.{◌≡◌, ◌<◌, [], true, length, drop, IsTrue};
 ghost use Rattle.std.specs.Borrow.{sem};
 ghost use Rattle.atom_core.specs.Answer.{IsAtom};
 ghost use Rattle.plug_api.specs.Buffers.{block_at, forge_at, with_value};
-ghost use Rattle.plug_api.specs.Inputs.{samples_at, value_at};
+ghost use Rattle.plug_api.specs.Inputs.{samples_at, value_at, events_at};
 ghost use Rattle.plug_api.specs.Lending.{LendsOutput, LendsOutputForge};
 ghost use Rattle.plug_api.specs.Ports.{ports_of, ins_of, places_of, outs_of, reference_of, place_of, inputs_of, IsSameLoan};
 ghost use Rattle.plug_api.specs.Roles.{has_sound, has_control, has_atom, AreNumbered};
@@ -85,12 +85,13 @@ impl<'a> Ports<'a> {
         self.outs.set_value(place, value);
     }
 
-    /// The sequence of atom input `i`. It doesn't borrow the ports.
+    /// The sequence of atom input `i`. It doesn't borrow the ports. Its events stand after its first 16 bytes.
     pub fn events(&self, i: u32) -> AtomView<'a>
         requires place { i < length (ins_of self.now).events }
         requires whole { (forge_at (ins_of self.now).events i).levels ≡ [] }
         requires atom { ∥ IsAtom (forge_at (ins_of self.now).events i).bytes ∥₁ }
-        ensures { result.bytes.now ≡ (forge_at (ins_of self.now).events i).bytes }
+        ensures sequence { result.bytes.now ≡ (forge_at (ins_of self.now).events i).bytes }
+        ensures signal { AreNumbered (ports_of self.now) → IsTrue (has_atom true (ports_of self.now) i) → drop 16 result.bytes.now ≡ events_at (inputs_of self.now) i }
     {
         let ins: &'a Ins = self.ins;
         let forge: &'a Forge = ins.forge(i);

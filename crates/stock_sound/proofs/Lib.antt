@@ -1,0 +1,3 @@
+pub mod Echoing
+pub mod Fits
+pub mod Mixing

@@ -1,0 +1,5 @@
+pub mod Amplifier
+pub mod Constant
+pub mod Echo
+pub mod Mixer
+pub mod Plain

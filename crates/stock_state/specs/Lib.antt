@@ -1,0 +1,4 @@
+pub mod Levels
+pub mod Jobs
+pub mod Keep
+pub mod Tank
