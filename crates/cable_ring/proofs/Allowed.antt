@@ -23,7 +23,9 @@ use Rattle.cable_ring.specs.Cells.{slot, putting, fetching}
 use Rattle.cable_ring.specs.Rule.{head_word, tail_word, IsRing, IsCable}
 use Rattle.cable_ring.specs.Steps.{Seated, At, drew, marked, took, saw_head, stored_tail, saw_tail, saw_cell, stored_head}
 use Rattle.cable_ring.specs.Passes.{sender_at, taker_at}
+use Rattle.cable_ring.specs.Ends.{DidOwn}
 use Rattle.cable_ring.proofs.Put.{put}
+use Rattle.cable_ring.proofs.Owned.{own_event}
 use Rattle.cable_ring.proofs.TicketSteps.{above_events}
 use Rattle.cable_ring.proofs.Aside.{IsAside, IsOffBeat, other_ring, event_aside, pending_aside, event_off_beat, pending_off_beat, ring_takes}
 use Rattle.cable_ring.proofs.CableSteps.{Is, known-lt, counter-low, all-below, all_above, draw_step, ring_beside}
@@ -95,10 +97,10 @@ module _ {M : Type 0} (plan : Plan) where
     ends ring = (get_or-set_other s.words 0 (head_word ring) ((next + 1) % 18446744073709551616) 0 (λ e. omega arith), get_or-set_other s.words 0 (tail_word ring) ((next + 1) % 18446744073709551616) 0 (λ e. omega arith))
 
     -- a draw that does nothing on any ring
-    plain_draw : (new : Trace M) → drawn new ≡ drawn (h.traces a) ++ next ∷ [] → length (drawn (h.traces a)) < 2 ^ 56 → ((ring : ℕ) → IsAside ring (h.traces a) new)
+    plain_draw : (new : Trace M) → DidOwn plan.rings a new → drawn new ≡ drawn (h.traces a) ++ next ∷ [] → length (drawn (h.traces a)) < 2 ^ 56 → ((ring : ℕ) → IsAside ring (h.traces a) new)
         → IsOffBeat (h.traces a) new → IsCable plan record { words = drawn_words; homes = s.homes; views = set s.views id (Is plan s h id a new) }
-    plain_draw new more few aside off = draw_step plan s h id a at new drawn_words more few wide counter beat_word ends off
-        (λ ring spec is. ring_beside plan s h id a at new drawn_words more few wide counter beat_word ends off ring spec is (aside ring))
+    plain_draw new owns more few aside off = draw_step plan s h id a at new owns drawn_words more few wide counter beat_word ends off
+        (λ ring spec is. ring_beside plan s h id a at new owns drawn_words more few wide counter beat_word ends off ring spec is (aside ring))
 
   abbrev pub IsIdle : Acting M → Type 0
   IsIdle x = (x.trace.pending ≡ Idle) × (length (drawn x.trace) < 2 ^ 56)
@@ -113,7 +115,7 @@ module _ {M : Type 0} (plan : Plan) where
         Is plan s h id a (with_pending old (Drew n)),
         keeps,
         tt,
-        plain_draw s h id a at (with_pending old (Drew n)) (drawn_first old n (ap pending_ticket p)) idle.1
+        plain_draw s h id a at (with_pending old (Drew n)) (h.own a) (drawn_first old n (ap pending_ticket p)) idle.1
             (λ ring. pending_aside ring old (Drew n) (sym (ap (taken_before_ticket ring) p)) (sym (ap (putting ring) p)) (sym (ap (fetching ring) p))) (pending_off_beat old (Drew n)),
         (all-below plan s h id a at a, refl),
       ))
@@ -128,7 +130,7 @@ module _ {M : Type 0} (plan : Plan) where
         Is plan s h id a (with_event old n Marked),
         keeps,
         tt,
-        plain_draw s h id a at (with_event old n Marked) (drawn_more old n Marked (ap pending_ticket p)) idle.1
+        plain_draw s h id a at (with_event old n Marked) (own_event plan.rings a n old Marked (h.own a) tt) (drawn_more old n Marked (ap pending_ticket p)) idle.1
             (λ ring. event_aside ring n old Marked refl refl (ap (taken_before_ticket ring) p) (ap (putting ring) p) (ap (fetching ring) p)) (event_off_beat n old Marked refl refl),
         (all-below plan s h id a at a, refl),
       ))
@@ -152,7 +154,7 @@ module _ {M : Type 0} (plan : Plan) where
         Is plan s h id a new,
         keeps,
         tt,
-        draw_step plan s h id a at new (drawn_words s h id a at) more has.1 (wide s h id a at) (counter s h id a at) (beat_word s h id a at) (ends s h id a at) off
+        draw_step plan s h id a at new (own_event plan.rings a n old (Taken ring message) (h.own a) has.2) (drawn_words s h id a at) more has.1 (wide s h id a at) (counter s h id a at) (beat_word s h id a at) (ends s h id a at) off
             (λ q spec is. at_ring s h id a at q spec is has more off (ℕ_discrete ring q)),
         (λ r m e. let same = took-same ring r message m (sym p ∙ e) in
             (all-below plan s h id a at a, λ i. (Is plan s h id a (with_event old n (Taken (same.0 i) (same.1 i))), c))),
@@ -177,6 +179,6 @@ module _ {M : Type 0} (plan : Plan) where
           ))
       at_ring s h id a at q spec is has more off (no ne) =
           let n : ℕ = get_or s.words 0 0 in
-          ring_beside plan s h id a at (with_event (h.traces a) n (Taken ring message)) (drawn_words s h id a at) more has.1 (wide s h id a at) (counter s h id a at) (beat_word s h id a at) (ends s h id a at) off q spec is
+          ring_beside plan s h id a at (with_event (h.traces a) n (Taken ring message)) (own_event plan.rings a n (h.traces a) (Taken ring message) (h.own a) has.2) (drawn_words s h id a at) more has.1 (wide s h id a at) (counter s h id a at) (beat_word s h id a at) (ends s h id a at) off q spec is
           (event_aside q n (h.traces a) (Taken ring message) refl (ne_eqb ring q ne)
           (ap (taken_before_ticket q) has.0 ∙ other_ring ring q (message ∷ []) [] ne) (ap (putting q) has.0) (ap (fetching q) has.0))

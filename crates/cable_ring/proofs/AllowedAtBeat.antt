@@ -23,6 +23,7 @@ use Rattle.cable_ring.specs.Steps.{Seated, stored_beat, saw_beat}
 use Rattle.cable_ring.proofs.Put.{put, sides}
 use Rattle.cable_ring.proofs.Aside.{event_aside}
 use Rattle.cable_ring.proofs.CableSteps.{Is, own-above, beat_step}
+use Rattle.cable_ring.proofs.Owned.{own_event}
 use Rattle.cable_ring.proofs.Allowed.{as_ruled, by_rule}
 use Rattle.cable_ring.proofs.AllowedOnRings.{drew-same}
 
@@ -50,7 +51,7 @@ module _ {M : Type 0} (plan : Plan) (slots id : ℕ) where
         Is plan s h id a new,
         keeps,
         tt,
-        beat_step plan s h id a at new words s.homes same (length-set s.words 1 number) refl (get_or-set_other s.words 1 0 number 0 (λ e. omega arith))
+        beat_step plan s h id a at new (own_event plan.rings a ticket old (Stored number) (h.own a) first) words s.homes same (length-set s.words 1 number) refl (get_or-set_other s.words 1 0 number 0 (λ e. omega arith))
             (λ ring. event_aside ring ticket old (Stored number) refl refl (ap (taken_before_ticket ring) p) (ap (putting ring) p) (ap (fetching ring) p))
             (λ ring. (get_or-set_other s.words 1 (head_word ring) number 0 (λ e. omega arith), get_or-set_other s.words 1 (tail_word ring) number 0 (λ e. omega arith))) refl
             (subst (λ (n : ℕ). IsBeat n (put h.traces a new 0) (put h.traces a new 1)) (sym (get_or-set_same s.words 1 number 0 inside))
@@ -75,7 +76,7 @@ module _ {M : Type 0} (plan : Plan) (slots id : ℕ) where
         keeps,
         tt,
         subst (λ (ws : List ℕ). IsCable plan record { words = ws; homes = s.homes; views = set s.views id (Is plan s h id a new) }) (sym (set-get_or s.words 1 0))
-            (beat_step plan s h id a at new s.words s.homes same refl refl refl
+            (beat_step plan s h id a at new (own_event plan.rings a ticket old (Loaded number) (h.own a) second) s.words s.homes same refl refl refl
             (λ ring. event_aside ring ticket old (Loaded number) refl refl (ap (taken_before_ticket ring) p) (ap (putting ring) p) (ap (fetching ring) p))
             (λ ring. (refl, refl)) refl
             (sides (IsBeat number) (IsBeat number) (IsBeat number) h.traces a new 0 1

@@ -29,6 +29,7 @@ use Rattle.cable_ring.specs.Rule.{head_word, tail_word, IsRing, IsCable}
 use Rattle.cable_ring.specs.Steps.{Seated, FoundHead, FoundTail, FoundCell, saw_head, stored_tail, saw_tail, saw_cell, stored_head}
 use Rattle.cable_ring.specs.Passes.{sender_at, taker_at}
 use Rattle.cable_ring.proofs.Put.{put, sides}
+use Rattle.cable_ring.proofs.Owned.{own_event}
 use Rattle.cable_ring.proofs.CellSteps.{at-lt}
 use Rattle.cable_ring.proofs.RingSteps.{long, shown-le, behind, room, sender_stays, taker_stays, sender_claims, sender_finds_full, sender_stores, taker_sees, taker_fetches, taker_stores}
 use Rattle.cable_ring.proofs.Aside.{IsAside, IsOffBeat, other_ring, event_aside, pending_aside, event_off_beat, pending_off_beat}
@@ -96,7 +97,7 @@ module _ {M : Type 0} (plan : Plan) (slots id ring : ℕ) where
           keeps,
           tt,
           subst (λ (ws : List ℕ). IsCable plan record { words = ws; homes = s.homes; views = set s.views id (Is plan s h id a new) }) (sym (set-get_or s.words (head_word ring) 0))
-              (ring_step plan s h id a at new s.words s.homes same refl refl refl ring refl (λ o ne. (refl, refl)) (λ o k ne. refl) (event_off_beat ticket Old (Refused ring Head) refl refl)
+              (ring_step plan s h id a at new (own_event plan.rings a ticket Old (Refused ring Head) (h.own a) pre.1) s.words s.homes same refl refl refl ring refl (λ o ne. (refl, refl)) (λ o k ne. refl) (event_off_beat ticket Old (Refused ring Head) refl refl)
               (λ o ne. event_aside o ticket Old (Refused ring Head) (ne_eqb ring o (λ e. ne (sym e))) refl (ap (taken_before_ticket o) pre.0) (ap (putting o) pre.0) (ap (fetching o) pre.0))
               (λ spec is. as_sender plan.cells ring h.traces a spec.from spec.to new Head Tail s.homes Head Tail s.homes same (sender_is plan.rings ring a spec pre.1 is)
               (λ t q. sender_finds_full plan.cells ring Head Tail s.homes Old t q ticket pre.0 (own-above plan s h id a at ticket (ap pending_ticket pre.0)) full)
@@ -114,7 +115,7 @@ module _ {M : Type 0} (plan : Plan) (slots id ring : ℕ) where
           takes cell None,
           vacant,
           subst (λ (ws : List ℕ). IsCable plan record { words = ws; homes = set s.homes cell none; views = set s.views id (Is plan s h id a new) }) (sym (set-get_or s.words (head_word ring) 0))
-              (ring_step plan s h id a at new s.words (set s.homes cell none) same refl (length-set s.homes cell none) refl ring refl (λ o ne. (refl, refl))
+              (ring_step plan s h id a at new (h.own a) s.words (set s.homes cell none) same refl (length-set s.homes cell none) refl ring refl (λ o ne. (refl, refl))
               (λ o k ne. set_else s.homes cell (slot plan.cells o k) none (slots_apart plan.cells o ring k (length (sent ring Old)) h.limits.some_cell ne)) (pending_off_beat Old (Putting ring ticket Head))
               (λ o ne. pending_aside o Old (Putting ring ticket Head) (sym (ap (taken_before_ticket o) pre.0)) (other_ring ring o (Head ∷ []) [] (λ e. ne (sym e)) ∙ sym (ap (putting o) pre.0)) (sym (ap (fetching o) pre.0)))
               (λ spec is. as_sender plan.cells ring h.traces a spec.from spec.to new Head Tail s.homes Head Tail (set s.homes cell none) same (sender_is plan.rings ring a spec pre.1 is)
@@ -171,7 +172,7 @@ module _ {M : Type 0} (plan : Plan) (slots id ring : ℕ) where
         let inside : tail_word ring < length s.words = omega (arith, h.words) in
         let tail-now : get_or words (tail_word ring) 0 ≡ value = get_or-set_same s.words (tail_word ring) value 0 inside in
         let head-now : get_or words (head_word ring) 0 ≡ get_or s.words (head_word ring) 0 = get_or-set_other s.words (tail_word ring) (head_word ring) value 0 (λ e. omega arith) in
-        ring_step plan s h id a at new words homes same (length-set s.words (tail_word ring) value) (length-set s.homes cell (some (Some message)))
+        ring_step plan s h id a at new (own_event plan.rings a ticket old (Sent ring seen message) (h.own a) ends) words homes same (length-set s.words (tail_word ring) value) (length-set s.homes cell (some (Some message)))
         (get_or-set_other s.words (tail_word ring) 0 value 0 (λ e. omega arith)) ring (get_or-set_other s.words (tail_word ring) 1 value 0 (λ e. omega arith))
         (λ o ne. (get_or-set_other s.words (tail_word ring) (head_word o) value 0 (λ e. omega arith), get_or-set_other s.words (tail_word ring) (tail_word o) value 0 (λ e. ne (omega arith))))
         (λ o k ne. set_else s.homes cell (slot plan.cells o k) (some (Some message)) (slots_apart plan.cells o ring k (length (sent ring old)) h.limits.some_cell ne))
@@ -239,7 +240,7 @@ module _ {M : Type 0} (plan : Plan) (slots id ring : ℕ) where
           keeps,
           tt,
           subst (λ (ws : List ℕ). IsCable plan record { words = ws; homes = s.homes; views = set s.views id (Is plan s h id a new) }) (sym (set-get_or s.words (tail_word ring) 0))
-              (ring_step plan s h id a at new s.words s.homes same refl refl refl ring refl (λ o ne. (refl, refl)) (λ o k ne. refl) (event_off_beat ticket old (Looked ring tail ms) refl refl)
+              (ring_step plan s h id a at new (own_event plan.rings a ticket old (Looked ring tail ms) (h.own a) pre.1) s.words s.homes same refl refl refl ring refl (λ o ne. (refl, refl)) (λ o k ne. refl) (event_off_beat ticket old (Looked ring tail ms) refl refl)
               (λ o ne. event_aside o ticket old (Looked ring tail ms) refl (ne_eqb ring o (λ e. ne (sym e))) (ap (taken_before_ticket o) pre.0) (ap (putting o) pre.0) (ap (fetching o) pre.0))
               (λ spec is. let spec-is : there.0 ≡ spec = some-injective there.0 spec (sym there.1 ∙ is) in
               as_taker plan.cells ring h.traces a spec.from spec.to new head tail s.homes head tail s.homes same Q (λ q. ap messages sends.sends ∙ q)
@@ -297,7 +298,7 @@ module _ {M : Type 0} (plan : Plan) (slots id ring : ℕ) where
           takes cell (Some message),
           filled,
           subst (λ (ws : List ℕ). IsCable plan record { words = ws; homes = set s.homes cell none; views = set s.views id (Is plan s h id a new) }) (sym (set-get_or s.words (head_word ring) 0))
-              (ring_step plan s h id a at new s.words (set s.homes cell none) same refl (length-set s.homes cell none) refl ring refl (λ o ne. (refl, refl))
+              (ring_step plan s h id a at new (h.own a) s.words (set s.homes cell none) same refl (length-set s.homes cell none) refl ring refl (λ o ne. (refl, refl))
               (λ o k ne. set_else s.homes cell (slot plan.cells o k) none (slots_apart plan.cells o ring k (length (moved ring old)) h.limits.some_cell ne)) (pending_off_beat old (Fetching ring message))
               (λ o ne. pending_aside o old (Fetching ring message) (sym (ap (taken_before_ticket o) pre.0)) (sym (ap (putting o) pre.0)) (other_ring ring o (message ∷ []) [] (λ e. ne (sym e)) ∙ sym (ap (fetching o) pre.0)))
               (λ spec is. as_taker plan.cells ring h.traces a spec.from spec.to new head tail s.homes head tail (set s.homes cell none) same (λ t. Unit {0}) (λ q. tt) tt (taker_is plan.rings ring a spec pre.1 is)
@@ -342,7 +343,7 @@ module _ {M : Type 0} (plan : Plan) (slots id ring : ℕ) where
         let inside : head_word ring < length s.words = omega (arith, h.words) in
         let head-now : get_or words (head_word ring) 0 ≡ value = get_or-set_same s.words (head_word ring) value 0 inside in
         let tail-now : get_or words (tail_word ring) 0 ≡ get_or s.words (tail_word ring) 0 = get_or-set_other s.words (head_word ring) (tail_word ring) value 0 (λ e. omega arith) in
-        ring_step plan s h id a at new words homes same (length-set s.words (head_word ring) value) (length-set s.homes cell (some None))
+        ring_step plan s h id a at new (h.own a) words homes same (length-set s.words (head_word ring) value) (length-set s.homes cell (some None))
         (get_or-set_other s.words (head_word ring) 0 value 0 (λ e. omega arith)) ring (get_or-set_other s.words (head_word ring) 1 value 0 (λ e. omega arith))
         (λ o ne. (get_or-set_other s.words (head_word ring) (head_word o) value 0 (λ e. ne (omega arith)), get_or-set_other s.words (head_word ring) (tail_word o) value 0 (λ e. omega arith)))
         (λ o k ne. set_else s.homes cell (slot plan.cells o k) (some None) (slots_apart plan.cells o ring k (length (moved ring old)) h.limits.some_cell ne))

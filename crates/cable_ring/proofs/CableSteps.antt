@@ -27,6 +27,8 @@ use Rattle.cable_ring.proofs.CellSteps.{at-lt}
 use Rattle.cable_ring.proofs.RingSteps.{ring_kept}
 use Rattle.cable_ring.proofs.TicketSteps.{above_events, pending_above, tickets_drawn, tickets_same, counter-lt}
 use Rattle.cable_ring.proofs.SeatSteps.{seats_go}
+use Rattle.cable_ring.specs.Ends.{DidOwn}
+use Rattle.cable_ring.proofs.Owned.{own_put}
 use Rattle.cable_ring.proofs.Aside.{IsAside, IsOffBeat, ring_aside, ring_draws, ring_takes, beat_aside, beat_draws}
 
 -- cells of different rings are different
@@ -70,7 +72,7 @@ module _ {M : Type 0} (plan : Plan) (s : State (Option M) (View M)) (h : IsCable
     all-below k = λ i d lt. (h.tickets.within k i d lt).1
 
     -- a step at a ring
-    module _ (new : Trace M) (words : List ℕ) (homes : List (maybe.Option (Option M))) (same : drawn new ≡ drawn (h.traces a)) (wide : length words ≡ length s.words)
+    module _ (new : Trace M) (owns : DidOwn plan.rings a new) (words : List ℕ) (homes : List (maybe.Option (Option M))) (same : drawn new ≡ drawn (h.traces a)) (wide : length words ≡ length s.words)
         (deep : length homes ≡ length s.homes) (counter : get_or words 0 0 ≡ get_or s.words 0 0) where
       drawn_as : (k : ℕ) → drawn (put h.traces a new k) ≡ drawn (h.traces k)
       drawn_as k = go (ℕ_discrete k a)
@@ -91,6 +93,7 @@ module _ {M : Type 0} (plan : Plan) (s : State (Option M) (View M)) (h : IsCable
         limits = h.limits;
         words = wide ∙ h.words;
         slots = deep ∙ h.slots;
+        own = own_put plan.rings h.traces a new h.own owns;
         seated = seats_go plan h.traces s.views h.seated id (record { actor = a; plan = plan; trace = h.traces a }) at new;
         tickets = subst (λ (n : ℕ). AreTickets plan.first plan.actors n (λ k. drawn (put h.traces a new k))) (sym counter)
             (tickets_same plan.first plan.actors (get_or s.words 0 0) (λ k. drawn (h.traces k)) (λ k. drawn (put h.traces a new k)) drawn_as h.tickets);
@@ -118,6 +121,7 @@ module _ {M : Type 0} (plan : Plan) (s : State (Option M) (View M)) (h : IsCable
         limits = h.limits;
         words = wide ∙ h.words;
         slots = deep ∙ h.slots;
+        own = own_put plan.rings h.traces a new h.own owns;
         seated = seats_go plan h.traces s.views h.seated id (record { actor = a; plan = plan; trace = h.traces a }) at new;
         tickets = subst (λ (n : ℕ). AreTickets plan.first plan.actors n (λ k. drawn (put h.traces a new k))) (sym counter)
             (tickets_same plan.first plan.actors (get_or s.words 0 0) (λ k. drawn (h.traces k)) (λ k. drawn (put h.traces a new k)) drawn_as h.tickets);
@@ -131,7 +135,7 @@ module _ {M : Type 0} (plan : Plan) (s : State (Option M) (View M)) (h : IsCable
       }
 
     -- a step that draws a ticket
-    module _ (new : Trace M) (words : List ℕ) (more : drawn new ≡ drawn (h.traces a) ++ get_or s.words 0 0 ∷ []) (few : length (drawn (h.traces a)) < 2 ^ 56)
+    module _ (new : Trace M) (owns : DidOwn plan.rings a new) (words : List ℕ) (more : drawn new ≡ drawn (h.traces a) ++ get_or s.words 0 0 ∷ []) (few : length (drawn (h.traces a)) < 2 ^ 56)
         (wide : length words ≡ length s.words) (counter : get_or words 0 0 ≡ get_or s.words 0 0 + 1) (beat_word : get_or words 1 0 ≡ get_or s.words 1 0)
         (ends : (ring : ℕ) → (get_or words (head_word ring) 0 ≡ get_or s.words (head_word ring) 0) × (get_or words (tail_word ring) 0 ≡ get_or s.words (tail_word ring) 0))
         (off : IsOffBeat (h.traces a) new) where
@@ -149,6 +153,7 @@ module _ {M : Type 0} (plan : Plan) (s : State (Option M) (View M)) (h : IsCable
         limits = h.limits;
         words = wide ∙ h.words;
         slots = h.slots;
+        own = own_put plan.rings h.traces a new h.own owns;
         seated = seats_go plan h.traces s.views h.seated id (record { actor = a; plan = plan; trace = h.traces a }) at new;
         tickets = subst (λ (n : ℕ). AreTickets plan.first plan.actors n (λ k. drawn (put h.traces a new k))) (sym counter)
             (tickets_drawn plan.first plan.actors (get_or s.words 0 0) (λ k. drawn (h.traces k)) (λ k. drawn (put h.traces a new k)) h.tickets a known-lt more_as

@@ -1,4 +1,5 @@
 pub mod Put
+pub mod Owned
 pub mod CellSteps
 pub mod RingSteps
 pub mod TicketSteps
@@ -14,3 +15,6 @@ pub mod Counting
 pub mod Opening
 pub mod Beginning
 pub mod Chains
+pub mod Gathering
+pub mod Emptying
+pub mod Closing

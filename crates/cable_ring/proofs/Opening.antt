@@ -15,6 +15,9 @@ use Rattle.cable_ring.specs.declared.view.Plan.{Plan}
 use Rattle.cable_ring.specs.declared.view.View.{View}
 use Rattle.cable_ring.specs.declared.view.View.TheVariants.{Desk, Actor}
 use Rattle.cable_ring.specs.Cells.{slot}
+use Rattle.cable_ring.specs.Ends.{IsOwn}
+use Rattle.cable_trace.specs.declared.trace.Event.{Event}
+use Rattle.std.proofs.lemmas.List.Elements.{All-nil}
 use Rattle.cable_ring.specs.Drawn.{AreTickets}
 use Rattle.cable_ring.specs.Rule.{head_word, tail_word, IsPlan, IsRing, IsBeat, IsCable}
 use Rattle.cable_ring.specs.Steps.{handed_out, next_actor}
@@ -61,6 +64,7 @@ cable_begins {M} plan words cells limits wide deep first others = subst (λ (n :
   limits = limits;
   words = wide;
   slots = length-map (replicate (length plan.rings * plan.cells) None) (λ (x : Option M). some x) ∙ length-replicate (length plan.rings * plan.cells) None;
+  own = λ actor. All-nil (λ (event : Event M). IsOwn plan.rings actor event.action);
   seated = seats_begin plan;
   tickets = subst (λ (n : ℕ). AreTickets plan.first plan.actors n (λ actor. drawn {M = M} fresh)) (sym first) (tickets_none plan.first plan.actors (λ actor. drawn {M = M} fresh) (λ k. refl));
   rings = λ ring spec is. let lt = at-lt plan.rings ring spec is in
@@ -84,6 +88,7 @@ may_hand_out {M} plan id n view is below = subst (λ (v : View M). Splits (IsCab
   limits = h.limits;
   words = h.words;
   slots = h.slots;
+  own = h.own;
   seated = seats_handed_out plan h.traces s.views h.seated id plan n [] at refl below;
   tickets = h.tickets;
   rings = h.rings;

@@ -107,8 +107,11 @@ pub tickets_same : (first actors next : ℕ) (tickets now : ℕ → List ℕ) �
 tickets_same first actors next tickets now same h = subst (AreTickets first actors next) (λ i k. sym (same k) i) h
 
 -- the counter never goes round
+pub counter-below : (first actors next : ℕ) (tickets : ℕ → List ℕ) → first < 2 ^ 60 → actors ≤ 16 → AreTickets first actors next tickets → next < 2 ^ 61
+counter-below first actors next tickets low some h = let t : total actors (λ k. length (tickets k)) ≤ actors * 2 ^ 56 = total-le actors (λ k. length (tickets k)) (2 ^ 56) h.few in omega (arith, h.counted)
+
 pub counter-lt : (first actors next : ℕ) (tickets : ℕ → List ℕ) → first < 2 ^ 60 → actors ≤ 16 → AreTickets first actors next tickets → next < 2 ^ 61 + 1
-counter-lt first actors next tickets low some h = let t : total actors (λ k. length (tickets k)) ≤ actors * 2 ^ 56 = total-le actors (λ k. length (tickets k)) (2 ^ 56) h.few in omega (arith, h.counted)
+counter-lt first actors next tickets low some h = let lt = counter-below first actors next tickets low some h in omega arith
 
 -- nobody has drawn a ticket yet
 pub tickets_none : (first actors : ℕ) (tickets : ℕ → List ℕ) → ((k : ℕ) → tickets k ≡ []) → AreTickets first actors first tickets

@@ -1,5 +1,6 @@
 pub mod Seats
 pub mod Cells
+pub mod Ends
 pub mod Drawn
 pub mod Rule
 pub mod Steps
@@ -9,3 +10,5 @@ pub mod Planned
 pub mod Tables
 pub mod Opened
 pub mod Drawers
+pub mod Closed
+pub mod Emptied

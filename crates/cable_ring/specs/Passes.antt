@@ -19,6 +19,7 @@ use Rattle.cable_ring.specs.declared.view.View.{View}
 use Rattle.cable_ring.specs.Seats.{acting_of}
 use Rattle.cable_ring.specs.Rule.{IsPlan}
 use Rattle.cable_ring.specs.Steps.{Seated, IsNewTicket}
+pub use Rattle.cable_ring.specs.Ends.{sender_at, taker_at}
 use Rattle.std.specs.Prelude.{Option, ◌*◌}
 
 -- The token of an actor: of which table and plan it is, and what the actor did. Between calls nothing is pending.
@@ -47,17 +48,6 @@ module _ {M : Type 0} where
   -- how many tickets an actor may still draw
   abbrev pub HasLeft : ℕ → PassView M → Type 0
   HasLeft n pass = n + length pass.events ≤ 2 ^ 56
-
--- the number of a ring's sender, or of its taker, and one; 0 where there is no such ring
-abbrev pub sender_at : List RingSpec → ℕ → ℕ
-sender_at [] ring = 0
-sender_at (spec ∷ rings) zero = suc spec.from
-sender_at (spec ∷ rings) (suc ring) = sender_at rings ring
-
-abbrev pub taker_at : List RingSpec → ℕ → ℕ
-taker_at [] ring = 0
-taker_at (spec ∷ rings) zero = suc spec.to
-taker_at (spec ∷ rings) (suc ring) = taker_at rings ring
 
 module _ {M : Type 0} where
   -- the token that a seat of the table stands for

@@ -1,5 +1,5 @@
 -- The plan of a cable.
-use Rattle.cable_ring.specs.declared.cable.Layout.{Layout}
+use Rattle.cable_ring.specs.declared.layout.Layout.{Layout}
 use Rattle.cable_ring.specs.declared.view.Plan.{Plan}
 
 abbrev pub plan_of : Layout → Plan

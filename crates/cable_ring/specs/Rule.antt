@@ -14,6 +14,7 @@ use Rattle.cable_ring.specs.declared.view.View.{View}
 use Rattle.cable_ring.specs.Seats.{AreSeated}
 use Rattle.cable_ring.specs.Drawn.{AreTickets}
 use Rattle.cable_ring.specs.Cells.{putting, fetching, AreCells}
+use Rattle.cable_ring.specs.Ends.{DidOwn}
 
 -- Word 0 is the counter of tickets and word 1 the beat. Then come the head and the tail of each ring: how many messages were taken, and how many sent.
 abbrev pub head_word : ℕ → ℕ
@@ -50,6 +51,7 @@ pub record IsCable {M : Type 0} (plan : Plan) (s : State (Option M) (View M)) : 
   pub slots : length s.homes ≡ length plan.rings * plan.cells
   pub seated : AreSeated plan traces s.views
   pub tickets : AreTickets plan.first plan.actors (slice_index s.words 0) (λ actor. drawn (traces actor))
+  pub own : (actor : ℕ) → DidOwn plan.rings actor (traces actor)
   pub rings : (ring : ℕ) (spec : RingSpec) → get_elem? plan.rings ring ≡ some spec
       → IsRing plan.cells ring (slice_index s.words (head_word ring)) (slice_index s.words (tail_word ring)) s.homes (traces spec.from) (traces spec.to)
   pub beat : IsBeat (slice_index s.words 1) (traces 0) (traces 1)

@@ -8,7 +8,7 @@ ghost use Rattle.cable_trace.specs.Beat.{stores};
 ghost use Rattle.cable_ring.specs.Cells.{slot};
 ghost use Rattle.cable_ring.specs.Passes.{trace_at, noted, IsNext, HasLeft, sender_at, taker_at, pass_at, IsResting, IsSized};
 
-use crate::cable::Top;
+use crate::layout::Top;
 use crate::pass::Place;
 use crate::plays::{
     Draw, DrawForTake, Mark, SeeBeat, SeeCell, SeeHead, SeeTail, StoreBeat, StoreHead, StoreTail,
@@ -23,7 +23,7 @@ pub struct Full<M> {
 }
 
 // The slot of a ring's cell for the message with this number.
-fn slot_of(cells: u64, ring: u32, number: u64) -> usize
+pub(crate) fn slot_of(cells: u64, ring: u32, number: u64) -> usize
     requires { (0 < cells) × (cells ≤ 64) }
     ensures { result ≡ slot cells ring number }
 {

@@ -5,14 +5,19 @@
 mod actor;
 mod cable;
 mod calls;
+mod close;
 mod drawer;
+mod layout;
 mod pass;
 mod plays;
 mod seat;
+mod start;
 mod view;
 
-pub use cable::{Cable, Layout, Wiring};
+pub use cable::Cable;
 pub use calls::Full;
+pub use close::Left;
+pub use layout::{Layout, Wiring};
 pub use pass::{Count, Pass};
 pub use seat::{Seat, beat, draw, left, look, look_beat, rise, send, take};
 pub use view::{Acting, Plan, RingSpec, View};

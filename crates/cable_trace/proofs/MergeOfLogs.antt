@@ -52,6 +52,24 @@ module _ (logs : ℕ → List (ℕ × Entry)) (marks : List (ℕ × Entry)) (m :
         let pair : ℕ × ℕ = ((get_or (logs actor) k d).0, found.0) in
         absurd (none_in (refused ring (traces actor)) pair (r.refused_by_one actor (eqb-false actor source e)) found.1)
 
+    -- a kind of entries that one actor alone makes are that actor's
+    made_by : (is_kind : Kind → Bool) (one : ℕ) → ((actor : ℕ) → actor ≢ one → tickets_in is_kind ring (logs actor) ≡ []) → All (λ mark. is_on is_kind ring mark ≡ true → mark.1.actor ≡ one) marks
+    made_by is_kind one none = all_marks (λ actor mark. is_on is_kind ring mark ≡ true → actor ≡ one) (λ actor. by actor (actor == one) refl)
+      where
+        by : (actor : ℕ) (b : Bool) → (actor == one) ≡ b → All (λ mark. is_on is_kind ring mark ≡ true → actor ≡ one) (logs actor)
+        by actor true e = λ k d lt is. eqb-true actor one e
+        by actor false e =
+            let other : All (λ x. is_on is_kind ring x ≡ true → ⊥) (logs actor) =
+            none_kept (λ (x : ℕ × Entry). x.0) (is_on is_kind ring) (logs actor) (none actor (eqb-false actor one e)) in
+            λ k d lt is. absurd (other k d lt is)
+
+    looks_by : (actor : ℕ) (b : Bool) → (actor == target) ≡ b → All (λ mark. is_on is_look ring mark ≡ true → actor ≡ target) (logs actor)
+    looks_by actor true e = λ k d lt is. eqb-true actor target e
+    looks_by actor false e = λ k d lt is.
+        let mark : ℕ × Entry = get_or (logs actor) k d in
+        let pair : ℕ × ℕ = (mark.0, mark.1.b + below mark.0 (tickets (taken ring (traces actor)))) in
+        absurd (none_in (looks ring (traces actor)) pair (r.seen_by_one actor (eqb-false actor target e)) ((h actor).seen k d lt is))
+
     look_as : (actor : ℕ) (b : Bool) → (actor == target) ≡ b
         → All (λ mark. is_on is_look ring mark ≡ true → Contains (looks ring (traces target)) (mark.0, mark.1.b + below mark.0 (tickets (taken ring (traces target))))) (logs actor)
     look_as actor true e =
@@ -70,6 +88,11 @@ module _ (logs : ℕ → List (ℕ × Entry)) (marks : List (ℕ × Entry)) (m :
       fulls = all_marks (λ actor mark. is_on is_full ring mark ≡ true → (seen : ℕ) × Contains (refused ring (traces source)) (mark.0, seen)) (λ actor. full_as actor (actor == source) refl);
       seen = all_marks (λ actor mark. is_on is_look ring mark ≡ true → Contains (looks ring (traces target)) (mark.0, mark.1.b + below mark.0 (tickets (taken ring (traces target)))))
           (λ actor. look_as actor (actor == target) refl);
+      ends = record {
+        sends = made_by is_send source (λ actor other. (h actor).sends ∙ ap tickets (r.sent_by_one actor other));
+        looks = all_marks (λ actor mark. is_on is_look ring mark ≡ true → actor ≡ target) (λ actor. looks_by actor (actor == target) refl);
+        takes = made_by is_take target (λ actor other. (h actor).takes ∙ ap tickets (r.taken_by_one actor other));
+      };
       by_sender = drew_as source;
       by_taker = drew_as target;
     }

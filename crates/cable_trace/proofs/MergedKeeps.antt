@@ -72,6 +72,7 @@ module _ {M : Type 0} (cells ring source target : ℕ) (sender taker : Trace M) 
 
   pub merged_keeps : KeepsRing cells ring source target marks
   merged_keeps = record {
+    ends = m.ends;
     paired = λ before after take e is. take_paired before after take e is;
     roomy = λ before after send e is. send_roomy before after send e is;
     full = λ before after refusal e is. refusal_full before after refusal e is;

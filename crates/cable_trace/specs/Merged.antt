@@ -40,6 +40,12 @@ takes_in ring marks = count_by (is_on is_take ring) marks
 abbrev pub tickets_in : (Kind → Bool) → ℕ → List (ℕ × Entry) → List ℕ
 tickets_in is_kind ring marks = map (λ mark. mark.0) (filter (is_on is_kind ring) marks)
 
+-- One actor alone sends on a ring, and one alone looks at it and takes from it.
+pub record HasEnds (ring source target : ℕ) (marks : List (ℕ × Entry)) : Type 0 where
+  pub sends : All (λ mark. is_on is_send ring mark ≡ true → mark.1.actor ≡ source) marks
+  pub looks : All (λ mark. is_on is_look ring mark ≡ true → mark.1.actor ≡ target) marks
+  pub takes : All (λ mark. is_on is_take ring mark ≡ true → mark.1.actor ≡ target) marks
+
 -- A list of entries has rising tickets and agrees on a ring with the traces of its two actors. Their refusals and looks may lack an entry.
 pub record IsMerged {M : Type 0} (ring source target : ℕ) (sender taker : Trace M) (marks : List (ℕ × Entry)) : Type 0 where
   pub rises : AllPairs (λ first second. first.0 < second.0) marks
@@ -48,11 +54,14 @@ pub record IsMerged {M : Type 0} (ring source target : ℕ) (sender taker : Trac
   pub fulls : All (λ mark. is_on is_full ring mark ≡ true → (seen : ℕ) × Contains (refused ring sender) (mark.0, seen)) marks
   -- an entry says how many a look showed that weren't taken yet
   pub seen : All (λ mark. is_on is_look ring mark ≡ true → Contains (looks ring taker) (mark.0, mark.1.b + below mark.0 (tickets (taken ring taker)))) marks
+  pub ends : HasEnds ring source target marks
   pub by_sender : All (λ mark. mark.1.actor ≡ source → Contains (drawn sender) mark.0) marks
   pub by_taker : All (λ mark. mark.1.actor ≡ target → Contains (drawn taker) mark.0) marks
 
 -- The rules of a ring in a list of entries, by counts of what stands before a place.
 pub record KeepsRing (cells ring source target : ℕ) (marks : List (ℕ × Entry)) : Type 0 where
+  -- one actor alone sends on it, and one alone looks at it and takes from it
+  pub ends : HasEnds ring source target marks
   -- each take has its send before it
   pub paired : (before after : List (ℕ × Entry)) (take : ℕ × Entry) → marks ≡ before ++ take ∷ after → is_on is_take ring take ≡ true
       → takes_in ring before < sends_in ring before

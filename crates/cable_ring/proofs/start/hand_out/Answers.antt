@@ -9,7 +9,7 @@ use Rattle.cable_ring.specs.Planned.{plan_of}
 use Rattle.cable_ring.specs.Steps.{Seated, handed_out, next_actor}
 use Rattle.cable_ring.proofs.Opening.{may_hand_out}
 use Rattle.cable_ring.proofs.Beginning.{no_count, begun_pass, begun_resting, begun_sized, begun_counts, opened_none, opened_more}
-use Rattle.cable_ring.proofs.cable.hand_out.Goals as goal
+use Rattle.cable_ring.proofs.start.hand_out.Goals as goal
 
 pub split_seat-place-requires : goal.split_seat-place-requires
 split_seat-place-requires g c = let inv = c.loop-actor.invariant in let same = c.requires.table.2 in let wide = c.requires.table.1.words in

@@ -2,7 +2,7 @@ use Rattle.std.proofs.Common.{◌≡◌, [], ◌∷◌}
 use Rattle.cable_ring.specs.declared.view.View.TheVariants.{Desk}
 use Rattle.cable_ring.specs.Opened.{AreOpened}
 use Rattle.cable_ring.specs.Planned.{plan_of}
-use Rattle.cable_ring.proofs.cable.hand_out.Given as goal
+use Rattle.cable_ring.proofs.start.hand_out.Given as goal
 
 abbrev pub invariant-loop-actor : goal.invariant-loop-actor
 invariant-loop-actor g l = record {
