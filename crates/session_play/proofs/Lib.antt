@@ -1,0 +1,4 @@
+pub mod Plays
+pub mod Verdicts
+pub mod Besides
+pub mod Judged

@@ -1,0 +1,16 @@
+pub mod Setup
+pub mod SessionShape
+pub mod Value
+pub mod Looking
+pub mod EventBytes
+pub mod Patch
+pub mod Notices
+pub mod Signals
+pub mod Run
+pub mod Hand
+pub mod Calls
+pub mod Playing
+pub mod ValueRule
+pub mod Judging
+pub mod Rules
+pub mod Laws

@@ -1,0 +1,41 @@
+ghost use Rattle.session_play.specs.Laws.{HasOnePlay, HasSomePlay, PlaysGoOn, HasSomeVerdict, HasOneViolation, LawfulHasNone, VerdictIsLawful, VerdictIsFirst, IsLawfulOrBroken, IsBrokenOnce, IsLawfulOnly, IsLawfulBesides};
+
+/// The values of a record are one, whatever the parts of its instances are.
+pub fn one_play<F, B>()
+    ensures { HasOnePlay F B }
+{}
+
+/// Each record has values: those of its play.
+pub fn some_play<F, B>()
+    ensures { HasSomePlay F B }
+{}
+
+/// The play of a record goes on from that of its first entries.
+pub fn plays_go_on<F, B>()
+    ensures { PlaysGoOn F B }
+{}
+
+/// However records are judged line by line, each is lawful or has a first violation; the verdict says which.
+pub fn some_verdict<S>()
+    ensures some { HasSomeVerdict S }
+    ensures lawful { VerdictIsLawful S }
+    ensures first { VerdictIsFirst S }
+{}
+
+/// The first violation of a record is one, and a lawful record has none.
+pub fn one_verdict<S>()
+    ensures one { HasOneViolation S }
+    ensures none { LawfulHasNone S }
+{}
+
+/// So it is with values: each record is lawful, or has exactly one first violation.
+pub fn judged_with_values<F, B>()
+    ensures some { IsLawfulOrBroken F B }
+    ensures one { IsBrokenOnce F B }
+    ensures none { IsLawfulOnly F B }
+{}
+
+/// A record that is lawful with its values is lawful but for them.
+pub fn lawful_besides<F, B>()
+    ensures { IsLawfulBesides F B }
+{}
