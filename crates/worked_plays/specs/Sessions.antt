@@ -11,7 +11,7 @@ use Rattle.session_script.specs.declared.session.OutLine.{OutLine}
 use Rattle.session_script.specs.declared.session.Session.{Session}
 use Rattle.session_script.specs.declared.session.SetLine.{SetLine}
 use Rattle.step_law.specs.declared.actor.Actor.TheVariants.{Audio, Control, Worker}
-use Rattle.step_law.specs.declared.call.Call.TheVariants.{Run, Response, EndRun, Work, Make, Activate, Deactivate, Cleanup}
+use Rattle.step_law.specs.declared.call.Call.TheVariants as call
 use Rattle.step_law.specs.declared.entry.Entry.{Entry}
 use Rattle.step_law.specs.declared.ring.Ring.TheVariants.{ControlToAudio, AudioToControl, ControlToWorker, Jobs, Responses}
 use Rattle.step_law.specs.Entry.{block_of, done_of, look_of, take_of, send_of, full_of, begin_of, end_of, stop_of, beat_of, join, last}
@@ -76,7 +76,7 @@ burst_decl =
 
 -- it answers on an atom port
 abbrev pub reply_port : Port
-reply_port = record port_of 0 (codes "notify") false kind.Atom (ones 0) { room = 4096; patch = true }
+reply_port = record (port_of 0 (codes "notify") false kind.Atom (ones 0)) { room = 4096; patch = true }
 
 abbrev pub teller_decl : Decl
 teller_decl = decl_of (codes "urn:example:teller") false (reply_port ∷ [])
@@ -144,16 +144,16 @@ telling = run_of (session_of 1 1 1 (inst_of (codes "t") teller_decl ∷ []) [] [
 -- ---- records
 
 abbrev pub opened : ℕ → List Entry
-opened inst = begin_of Control Activate inst ∷ end_of Control Activate inst ∷ []
+opened inst = begin_of Control call.Activate inst ∷ end_of Control call.Activate inst ∷ []
 
 abbrev pub built : ℕ → List Entry
-built inst = begin_of Control Make inst ∷ end_of Control Make inst ∷ []
+built inst = begin_of Control call.Make inst ∷ end_of Control call.Make inst ∷ []
 
 abbrev pub closed : ℕ → List Entry
-closed inst = begin_of Control Deactivate inst ∷ end_of Control Deactivate inst ∷ []
+closed inst = begin_of Control call.Deactivate inst ∷ end_of Control call.Deactivate inst ∷ []
 
 abbrev pub cleaned : ℕ → List Entry
-cleaned inst = begin_of Control Cleanup inst ∷ end_of Control Cleanup inst ∷ []
+cleaned inst = begin_of Control call.Cleanup inst ∷ end_of Control call.Cleanup inst ∷ []
 
 -- audio stops after so many blocks, and so does the worker
 abbrev pub stopped : ℕ → List Entry
@@ -161,20 +161,20 @@ stopped blocks =
     stop_of Audio ∷ beat_of (blocks + 1) ∷ send_of Control (ControlToWorker 1) ∷ take_of (Worker 1) (ControlToWorker 1) ∷ stop_of (Worker 1) ∷ join ∷ []
 
 abbrev pub run_steps : ℕ → List Entry
-run_steps inst = begin_of Audio Run inst ∷ end_of Audio Run inst ∷ []
+run_steps inst = begin_of Audio call.Run inst ∷ end_of Audio call.Run inst ∷ []
 
 abbrev pub begun : ℕ → List Entry
 begun block = block_of block ∷ look_of Audio ControlToAudio 0 ∷ []
 
 abbrev pub job_steps : List Entry
 job_steps =
-    take_of (Worker 1) (Jobs 0) ∷ begin_of (Worker 1) Work 0 ∷ send_of (Worker 1) (Responses 0) ∷ end_of (Worker 1) Work 0 ∷ []
+    take_of (Worker 1) (Jobs 0) ∷ begin_of (Worker 1) call.Work 0 ∷ send_of (Worker 1) (Responses 0) ∷ end_of (Worker 1) call.Work 0 ∷ []
 
 abbrev pub delivery_steps : List Entry
-delivery_steps = take_of Audio (Responses 0) ∷ begin_of Audio Response 0 ∷ end_of Audio Response 0 ∷ []
+delivery_steps = take_of Audio (Responses 0) ∷ begin_of Audio call.Response 0 ∷ end_of Audio call.Response 0 ∷ []
 
 abbrev pub end_run_steps : List Entry
-end_run_steps = begin_of Audio EndRun 0 ∷ end_of Audio EndRun 0 ∷ []
+end_run_steps = begin_of Audio call.EndRun 0 ∷ end_of Audio call.EndRun 0 ∷ []
 
 abbrev pub amplified_block : ℕ → List Entry
 amplified_block block = begun block ++ run_steps 0 ++ run_steps 1 ++ done_of block ∷ []
@@ -195,7 +195,7 @@ empty_steps = two_opened ++ stopped 0 ++ two_closed
 abbrev pub fetching_block : ℕ → List Entry
 fetching_block block =
     begun block
-    ++ (begin_of Audio Run 0 ∷ send_of Audio (Jobs 0) ∷ end_of Audio Run 0 ∷ [])
+    ++ (begin_of Audio call.Run 0 ∷ send_of Audio (Jobs 0) ∷ end_of Audio call.Run 0 ∷ [])
     ++ job_steps
     ++ look_of Audio (Responses 0) 1 ∷ delivery_steps ++ end_run_steps ++ done_of block ∷ []
 
@@ -208,7 +208,7 @@ bursting_steps =
     built 0
     ++ opened 0
     ++ begun 0
-    ++ (begin_of Audio Run 0 ∷ send_of Audio (Jobs 0) ∷ send_of Audio (Jobs 0) ∷ full_of Audio (Jobs 0) ∷ end_of Audio Run 0 ∷ [])
+    ++ (begin_of Audio call.Run 0 ∷ send_of Audio (Jobs 0) ∷ send_of Audio (Jobs 0) ∷ full_of Audio (Jobs 0) ∷ end_of Audio call.Run 0 ∷ [])
     ++ job_steps
     ++ job_steps
     ++ (look_of Audio (Responses 0) 2 ∷ [])
