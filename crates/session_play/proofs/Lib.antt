@@ -2,3 +2,5 @@ pub mod Plays
 pub mod Verdicts
 pub mod Besides
 pub mod Judged
+pub mod Prefixes
+pub mod Signals

@@ -3,7 +3,7 @@ use Rattle.std.specs.Prelude.{◌≡◌, ◌⊎◌, ℕ, List, ◌++◌, Some, N
 use Rattle.step_law.specs.declared.entry.Entry.{Entry}
 use Rattle.record_law.specs.declared.shape.Broken.{Broken}
 use Rattle.record_law.specs.Lawful as plain
-use Rattle.session_play.specs.Judging.{Judging, IsLawful, IsViolation, verdict}
+use Rattle.session_play.specs.Judging.{Judging, KeepsRules, IsLawful, IsViolation, verdict}
 use Rattle.session_play.specs.Playing.{IsPlayOf, playing, play_of}
 use Rattle.session_play.specs.Rules.{IsLawfulRecord, IsFirstViolation}
 use Rattle.session_play.specs.Run.{Run}
@@ -61,3 +61,7 @@ IsLawfulOnly F B = (run : Run F B) (steps : List Entry) (line : ℕ) (broken : B
 -- a record that is lawful with its values is lawful but for them
 abbrev pub IsLawfulBesides : Type 0 → Type 0 → Type 0
 IsLawfulBesides F B = (run : Run F B) (steps : List Entry) → IsLawfulRecord run steps → plain.IsLawful (shape_of run.setup) steps
+
+-- what begins a record that keeps the rules keeps them
+abbrev pub BeginningsKeepRules : Type 0 → Type 0
+BeginningsKeepRules S = (j : Judging S) (first second : List Entry) → KeepsRules j (first ++ second) → KeepsRules j first

@@ -14,3 +14,4 @@ pub mod ValueRule
 pub mod Judging
 pub mod Rules
 pub mod Laws
+pub mod SignalLaws

@@ -1,4 +1,5 @@
-ghost use Rattle.session_play.specs.Laws.{HasOnePlay, HasSomePlay, PlaysGoOn, HasSomeVerdict, HasOneViolation, LawfulHasNone, VerdictIsLawful, VerdictIsFirst, IsLawfulOrBroken, IsBrokenOnce, IsLawfulOnly, IsLawfulBesides};
+ghost use Rattle.session_play.specs.Laws.{HasOnePlay, HasSomePlay, PlaysGoOn, HasSomeVerdict, HasOneViolation, LawfulHasNone, VerdictIsLawful, VerdictIsFirst, IsLawfulOrBroken, IsBrokenOnce, IsLawfulOnly, IsLawfulBesides, BeginningsKeepRules};
+ghost use Rattle.session_play.specs.SignalLaws.{DelayIsABlock};
 
 /// The values of a record are one, whatever the parts of its instances are.
 pub fn one_play<F, B>()
@@ -38,4 +39,14 @@ pub fn judged_with_values<F, B>()
 /// A record that is lawful with its values is lawful but for them.
 pub fn lawful_besides<F, B>()
     ensures { IsLawfulBesides F B }
+{}
+
+/// What begins a record that keeps the rules keeps them, however records are judged.
+pub fn beginnings_keep_rules<S>()
+    ensures { BeginningsKeepRules S }
+{}
+
+/// Over a cable with a delay comes in a block what came over it without one before the block began: in the first block that is nothing.
+pub fn a_delay_is_a_block<F, B>()
+    ensures { DelayIsABlock F B }
 {}
