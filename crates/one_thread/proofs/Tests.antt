@@ -8,7 +8,7 @@ use Rattle.session_play.specs.Rules.{judging, judged, IsLawfulRecord}
 use Rattle.session_play.specs.Run.{Run}
 use Rattle.session_play.specs.Value.{Play}
 use Rattle.session_play.proofs.Verdicts.{verdict_is_lawful, verdict_is_first, lawful_has_none}
-use Rattle.one_thread.specs.OneThread.{IsOneThread, comes_next, all_come}
+use Rattle.one_thread.specs.OneThread.{comes_next, all_come}
 use Rattle.one_thread.specs.Laws.{TestsSay, TestsAreKept}
 
 both : (a b : Bool) → (a && b) ≡ true → (a ≡ true) × (b ≡ true)

@@ -10,8 +10,8 @@ use Rattle.step_law.specs.Entry.{block_of}
 use Rattle.step_law.specs.Ring.{ring_at}
 use Rattle.record_law.specs.declared.shape.Shape.{Shape}
 use Rattle.record_law.specs.declared.shape.ShapeInst.{ShapeInst}
-use Rattle.record_law.specs.Entries.{is_by, is_kind}
-use Rattle.record_law.specs.Message.{Step, History}
+use Rattle.record_law.specs.Entries.{is_kind}
+use Rattle.record_law.specs.Message.{History}
 use Rattle.record_law.specs.History.{one_more, own}
 use Rattle.session_play.specs.Judging.{KeepsRules}
 use Rattle.session_play.specs.Looking.{steps_of}

@@ -1,5 +1,5 @@
 -- Whose turn it is where one thread does the work of all actors.
-use Rattle.std.specs.Prelude.{ℕ, suc, ◌+◌, ◌-◌, ◌==◌, nat_lt, nat_eq, Bool, true, false, not, ◌&&◌, ◌||◌, if◌then◌else◌, List, [], ◌∷◌, ◌++◌, find, length, is_none, unwrap_or, Option, Some, None}
+use Rattle.std.specs.Prelude.{ℕ, ◌+◌, ◌-◌, ◌==◌, nat_lt, Bool, true, false, not, ◌&&◌, ◌||◌, if◌then◌else◌, List, [], ◌∷◌, ◌++◌, find, length, is_none, unwrap_or, Option, Some, None}
 use Rattle.std.specs.List.{list_any, range_with_len}
 use Rattle.step_law.specs.declared.actor.Actor.{Actor}
 use Rattle.step_law.specs.declared.actor.Actor.TheVariants.{Audio, Control, Worker}
@@ -13,7 +13,7 @@ use Rattle.step_law.specs.Entry.{end_of}
 use Rattle.step_law.specs.Ring.{ring_at}
 use Rattle.record_law.specs.declared.shape.Shape.{Shape}
 use Rattle.record_law.specs.Entries.{same_entry}
-use Rattle.record_law.specs.Message.{Step, History}
+use Rattle.record_law.specs.Message.{History}
 use Rattle.record_law.specs.History.{own, waiting}
 use Rattle.record_law.specs.Protocol.{left_after}
 use Rattle.record_law.specs.Shape.{worker_of, works}

@@ -7,14 +7,12 @@ use Rattle.plug_api.specs.Sound.{silent}
 use Rattle.std.proofs.lemmas.List.{length-append, append-nil}
 use Rattle.std.proofs.lemmas.List.FromFn.{length-range_with_len}
 use Rattle.step_law.specs.declared.actor.Actor.TheVariants.{Audio}
-use Rattle.step_law.specs.declared.entry.Entry.{Entry}
 use Rattle.step_law.specs.declared.entry.Kind.TheVariants.{Done}
 use Rattle.lv_base.specs.declared.number.Sample.{Sample}
 use Rattle.record_law.specs.Entries.{is_kind}
 use Rattle.record_law.specs.History.{one_more}
 use Rattle.session_play.specs.Looking.{steps_of, doings, in_block}
-use Rattle.session_play.specs.Playing.{playing, then_played, step_at, value_at}
-use Rattle.session_play.specs.Run.{Run}
+use Rattle.session_play.specs.Playing.{then_played, step_at, value_at}
 use Rattle.session_play.specs.Setup.{Setup}
 use Rattle.session_play.specs.Value.{Moment, Play}
 use Rattle.play_outcome.specs.Counts.{number_of}

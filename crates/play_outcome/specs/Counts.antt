@@ -1,9 +1,9 @@
 -- Counts of a record's entries.
-use Rattle.std.specs.Prelude.{ℕ, ◌+◌, ◌==◌, Bool, true, false, not, ◌&&◌, ◌||◌, List, [], ◌∷◌, length, filter, Option, Some}
+use Rattle.std.specs.Prelude.{ℕ, ◌+◌, ◌==◌, Bool, true, false, not, ◌&&◌, ◌||◌, List, [], ◌∷◌}
 use Rattle.std.specs.List.{list_any}
 use Rattle.step_law.specs.declared.call.Call.{Call}
 use Rattle.step_law.specs.declared.call.Call.TheVariants.{Work}
-use Rattle.step_law.specs.declared.entry.Kind.TheVariants.{Take, Send, Full, Long, End, Last}
+use Rattle.step_law.specs.declared.entry.Kind.TheVariants.{Take, Full, Long, End, Last}
 use Rattle.step_law.specs.declared.ring.Ring.{Ring}
 use Rattle.step_law.specs.declared.ring.Ring.TheVariants.{ControlToAudio}
 use Rattle.step_law.specs.Call.{call_number}
@@ -15,7 +15,7 @@ use Rattle.record_law.specs.Message.{Message, Step, History}
 use Rattle.record_law.specs.Message.Message.{input}
 use Rattle.record_law.specs.History.{one_more, count}
 use Rattle.session_play.specs.Notices.{is_notice}
-use Rattle.session_play.specs.Value.{Ending, worked, Value, gave, Moment, Play}
+use Rattle.session_play.specs.Value.{Ending, worked, Value, gave, Play}
 
 -- how many steps pass a test
 abbrev pub number_of : (Step → Bool) → History → ℕ

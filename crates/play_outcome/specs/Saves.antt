@@ -1,5 +1,5 @@
 -- The states that a play saved.
-use Rattle.std.specs.Prelude.{ℕ, suc, List, [], ◌∷◌, filter_map, slice_get, Option, Some, None, option_map, option_and_then}
+use Rattle.std.specs.Prelude.{ℕ, suc, List, [], ◌∷◌, filter_map, slice_get, Option, option_map, option_and_then}
 use Rattle.session_script.specs.declared.session.Action.{Action}
 use Rattle.session_script.specs.declared.session.Inst.{Inst}
 use Rattle.state_store.specs.declared.prop.Prop.{Prop}

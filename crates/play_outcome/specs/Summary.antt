@@ -1,5 +1,5 @@
 -- The summary of a play: its sizes, what each instance did, what it answered, and how the actions went.
-use Rattle.std.specs.Prelude.{ℕ, suc, ◌+◌, ◌*◌, ◌&&◌, Bool, false, not, if◌then◌else◌, List, [], ◌∷◌, ◌++◌, length, filter, flat_map, codes, decimal, slice_get, Option, unwrap_or}
+use Rattle.std.specs.Prelude.{ℕ, suc, ◌+◌, ◌*◌, ◌&&◌, Bool, not, if◌then◌else◌, List, [], ◌∷◌, ◌++◌, length, filter, flat_map, codes, decimal, slice_get, Option, unwrap_or}
 use Rattle.std.specs.Fmt.{signed_decimal}
 use Rattle.std.specs.Option.{option_map_or}
 use Rattle.plugin_decl.specs.declared.declaration.Port.{Port}

@@ -1,14 +1,13 @@
 -- A record that is lawful with its values is lawful but for them.
-use Rattle.std.proofs.Common.{◌≡◌, Bool, true, false, not, ◌&&◌, cond, List, [], ◌∷◌, ◌++◌, find, Option, Some, None, refl, sym, ap, subst, ◌∙◌}
+use Rattle.std.proofs.Common.{◌≡◌, Bool, true, false, not, ◌&&◌, cond, List, [], ◌∷◌, ◌++◌, find, Option, Some, None, refl, sym, subst}
 use Rattle.std.proofs.lemmas.Option.{none-some}
 use Rattle.step_law.specs.declared.entry.Entry.{Entry}
 use Rattle.step_law.specs.declared.entry.Kind.TheVariants.{Last}
-use Rattle.record_law.specs.declared.shape.Broken.{Broken}
 use Rattle.record_law.specs.declared.shape.Broken.TheVariants.{Syntax, Order, Ring, Full, Room, Look, Holder, Class, Value, End}
 use Rattle.record_law.specs.Entries.{is_kind}
 use Rattle.record_law.specs.Lawful as plain
 use Rattle.record_law.specs.Rules as plain_rules
-use Rattle.record_law.specs.Protocol.{after, history_of}
+use Rattle.record_law.specs.Protocol.{after}
 use Rattle.session_play.specs.Judging as judging
 use Rattle.session_play.specs.Laws.{IsLawfulBesides}
 use Rattle.session_play.specs.Looking.{steps_of}

@@ -1,14 +1,13 @@
 -- The play of a record is one, and goes on from that of its first entries.
-use Rattle.std.proofs.Common.{◌≡◌, List, [], ◌∷◌, ◌++◌, refl, sym, ap, subst, ◌∙◌}
+use Rattle.std.proofs.Common.{◌≡◌, List, [], ◌∷◌, ◌++◌, refl, sym, ap, ◌∙◌}
 use Rattle.step_law.specs.declared.entry.Entry.{Entry}
-use Rattle.record_law.specs.Message.{History}
-use Rattle.record_law.specs.Protocol.{after, history_of}
+use Rattle.record_law.specs.Protocol.{after}
 use Rattle.session_play.specs.Looking.{steps_of}
-use Rattle.session_play.specs.Playing.{IsPlayed, IsPlayOf, played, playing, play_of, then_played, value_at}
+use Rattle.session_play.specs.Playing.{IsPlayed, played, playing, then_played, value_at}
 use Rattle.session_play.specs.Laws.{HasOnePlay, HasSomePlay, PlaysGoOn}
 use Rattle.session_play.specs.Run.{Run}
 use Rattle.session_play.specs.SessionShape.{shape_of}
-use Rattle.session_play.specs.Value.{Moment, Play}
+use Rattle.session_play.specs.Value.{Play}
 
 -- a play has the values of its history
 pub is_played : {F B : Type 0} → (run : Run F B) (p : Play F B) → IsPlayed run p → p ≡ played run (steps_of p)

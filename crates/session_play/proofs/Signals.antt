@@ -1,8 +1,8 @@
 -- A delay is a block.
-use Rattle.std.proofs.Common.{◌≡◌, ℕ, suc, ◌≤◌, Bool, true, false, cond, List, [], ◌∷◌, ◌++◌, length, take, drop, map, refl, sym, ap, ◌∙◌, arith}
+use Rattle.std.proofs.Common.{◌≡◌, Bool, true, false, cond, [], ◌∷◌, ◌++◌, ap, ◌∙◌}
 use Rattle.session_play.specs.Looking.{is_block, in_block, before_block}
-use Rattle.session_play.specs.Signals.{cable_signal, output_in}
-use Rattle.session_play.specs.SignalLaws.{BeginNoBlock, DelayIsABlock, with_delay, without_delay}
+use Rattle.session_play.specs.Signals.{output_in}
+use Rattle.session_play.specs.SignalLaws.{BeginNoBlock, DelayIsABlock}
 use Rattle.session_play.specs.Value.{Moment, Play}
 use Rattle.graph_order.specs.Ports.{port_at}
 use Rattle.plug_api.specs.Signal.{nothing}

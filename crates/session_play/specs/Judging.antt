@@ -5,7 +5,7 @@ use Rattle.step_law.specs.declared.entry.Kind.TheVariants.{Last}
 use Rattle.record_law.specs.declared.shape.Broken.{Broken}
 use Rattle.record_law.specs.declared.shape.Broken.TheVariants as rule
 use Rattle.record_law.specs.Entries.{is_kind}
-use Rattle.record_law.specs.Lawful.{is_some_entry, ends_by, is_ended}
+use Rattle.record_law.specs.Lawful.{is_some_entry, is_ended}
 use Rattle.record_law.specs.Verdict.{at_line, if_ended}
 
 -- what is known at first and after an entry, and the first rule that an entry breaks

@@ -8,7 +8,7 @@ use Rattle.step_law.specs.declared.ring.Ring.{Ring}
 use Rattle.plug_api.specs.Inputs.{Outputs}
 use Rattle.record_law.specs.Entries.{is_by, is_kind, is_on}
 use Rattle.record_law.specs.Message.{History}
-use Rattle.record_law.specs.History.{count, put_last}
+use Rattle.record_law.specs.History.{count}
 use Rattle.session_play.specs.Value.{Ending, Value, begun, tried, gave, Moment, Play, front_ended, back_ended, urids_ended, outputs_ended, given_in, body_in}
 
 -- its history

@@ -1,9 +1,9 @@
 -- The notices of a run: the patch messages that an instance answers on its reply port.
-use Rattle.std.specs.Prelude.{ℕ, ◌&&◌, Bool, true, false, if◌then◌else◌, List, [], ◌∷◌, drop, take, map, filter, Option, Some, None}
+use Rattle.std.specs.Prelude.{ℕ, Bool, true, false, if◌then◌else◌, List, [], ◌∷◌, drop, take, map, filter, Option, Some, None}
 use Rattle.step_law.specs.declared.call.Call.TheVariants.{Run}
 use Rattle.step_law.specs.declared.actor.Actor.TheVariants.{Audio}
 use Rattle.step_law.specs.Entry.{end_of}
-use Rattle.atom_core.specs.Value.{Value, Plain, plain, holding, other}
+use Rattle.atom_core.specs.Value.{Value, plain, other}
 use Rattle.atom_core.specs.Spelling.{atom_of}
 use Rattle.atom_sequence.specs.Event.{Event}
 use Rattle.plug_api.specs.Signal.{events, events_in}
@@ -14,7 +14,7 @@ use Rattle.record_law.specs.Entries.{same_entry}
 use Rattle.session_play.specs.EventBytes.{events_at}
 use Rattle.session_play.specs.Patch.{is_message}
 use Rattle.session_play.specs.Setup.{Setup, reply_port}
-use Rattle.session_play.specs.Value.{Ending, Moment, Play, outputs_ended, given_in}
+use Rattle.session_play.specs.Value.{Play, outputs_ended, given_in}
 
 -- an event is a message
 abbrev pub is_answer : Value → Bool

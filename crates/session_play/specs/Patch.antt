@@ -1,7 +1,6 @@
 -- Patch messages (LV2 patch): those that actions send, and which answers are messages.
-use Rattle.std.specs.Prelude.{ℕ, zero, suc, ◌+◌, ◌==◌, nat_lt, Bool, true, false, not, ◌&&◌, if◌then◌else◌, List, [], ◌∷◌, drop, length, filter, slice_range, Option, Some, None}
+use Rattle.std.specs.Prelude.{ℕ, zero, suc, ◌+◌, ◌==◌, nat_lt, Bool, true, not, ◌&&◌, if◌then◌else◌, List, [], ◌∷◌, drop, length, filter, slice_range, Option, Some, None}
 use Rattle.std.specs.List.{list_any}
-use Rattle.lv_base.specs.declared.number.Fixed.{Fixed}
 use Rattle.session_script.specs.declared.session.Deed.{Deed}
 use Rattle.session_script.specs.declared.session.Deed.TheVariants.{Set, PatchFixed, PatchInt, PatchGet, Save, Restore}
 use Rattle.atom_core.specs.Place.{number_at, size_at, kind_at, padded}

@@ -16,7 +16,7 @@ use Rattle.session_play.specs.Looking.{steps_of, open_call}
 use Rattle.session_play.specs.Notices.{untold}
 use Rattle.session_play.specs.Run.{Run}
 use Rattle.session_play.specs.SessionShape.{shape_of}
-use Rattle.session_play.specs.Value.{Ending, idle, Value, blank, begun, tried, gave, carried, Moment, Play}
+use Rattle.session_play.specs.Value.{Ending, idle, Value, blank, begun, tried, gave, carried, Play}
 
 -- ---- the value of an entry
 

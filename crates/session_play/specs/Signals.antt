@@ -1,5 +1,5 @@
 -- The signals of a block: what an instance's outputs gave, and what its inputs are given (LV2 core: audio, CV and control ports; LV2 atom).
-use Rattle.std.specs.Prelude.{ℕ, ◌-◌, ◌==◌, nat_eq, Bool, true, false, ◌&&◌, if◌then◌else◌, List, [], ◌∷◌, ◌++◌, map, filter, fold, length, slice_get, slice_index_or, pos, Option, Some, None, unwrap_or, option_and_then, option_map}
+use Rattle.std.specs.Prelude.{ℕ, ◌-◌, ◌==◌, nat_eq, Bool, true, false, ◌&&◌, if◌then◌else◌, List, [], ◌∷◌, ◌++◌, map, filter, fold, slice_index_or, pos, Option, Some, None, unwrap_or, option_and_then}
 use Rattle.std.specs.List.{range_with_len}
 use Rattle.std.specs.Option.{option_map_or}
 use Rattle.std.specs.Str.{bytes_eq}
@@ -22,12 +22,12 @@ use Rattle.step_law.specs.declared.entry.Kind.TheVariants.{Take}
 use Rattle.step_law.specs.declared.ring.Ring.TheVariants.{ControlToAudio}
 use Rattle.plug_api.specs.Sound.{silent, silence}
 use Rattle.plug_api.specs.Signal.{Signal, sound, control, events, nothing, nought, samples_in, events_in}
-use Rattle.plug_api.specs.Inputs.{Inputs, Outputs, signal_after}
+use Rattle.plug_api.specs.Inputs.{Inputs, signal_after}
 use Rattle.record_law.specs.Entries.{is_on}
 use Rattle.record_law.specs.Message.{Message}
 use Rattle.record_law.specs.Message.Message.{input}
 use Rattle.session_play.specs.EventBytes.{events_at, bytes_of}
-use Rattle.session_play.specs.Looking.{in_block, before_block, outputs_of, newer, if_so}
+use Rattle.session_play.specs.Looking.{in_block, before_block, outputs_of, newer}
 use Rattle.session_play.specs.Patch.{message_of}
 use Rattle.session_play.specs.Setup.{Setup, ports_of, patch_port, action_at}
 use Rattle.session_play.specs.Value.{Moment, Play}

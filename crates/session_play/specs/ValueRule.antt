@@ -1,8 +1,7 @@
 -- The rule on values: calls make the attempts, and runs the notices, that a record tells of, and long is exactly what is too long.
-use Rattle.std.specs.Prelude.{ℕ, nat_lt, nat_le, Bool, true, false, not, ◌&&◌, ◌||◌, List, [], ◌∷◌, length, Option, Some, None}
-use Rattle.interaction.specs.Interaction.{Interaction, done, ask}
+use Rattle.std.specs.Prelude.{ℕ, nat_lt, nat_le, Bool, true, false, not, ◌&&◌, ◌||◌, List, [], ◌∷◌, length, Option, Some}
+use Rattle.interaction.specs.Interaction.{Interaction, ask}
 use Rattle.step_law.specs.declared.actor.Actor.TheVariants.{Audio}
-use Rattle.step_law.specs.declared.entry.Entry.{Entry}
 use Rattle.step_law.specs.declared.entry.Kind.{Kind}
 use Rattle.step_law.specs.declared.entry.Kind.TheVariants.{Send, Full, Long, End}
 use Rattle.step_law.specs.Actor.{actor_at}
