@@ -4,3 +4,4 @@ pub mod Besides
 pub mod Judged
 pub mod Prefixes
 pub mod Signals
+pub mod Values

@@ -15,3 +15,4 @@ pub mod Judging
 pub mod Rules
 pub mod Laws
 pub mod SignalLaws
+pub mod ValueLaws

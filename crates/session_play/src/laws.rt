@@ -1,5 +1,6 @@
 ghost use Rattle.session_play.specs.Laws.{HasOnePlay, HasSomePlay, PlaysGoOn, HasSomeVerdict, HasOneViolation, LawfulHasNone, VerdictIsLawful, VerdictIsFirst, IsLawfulOrBroken, IsBrokenOnce, IsLawfulOnly, IsLawfulBesides, BeginningsKeepRules};
 ghost use Rattle.session_play.specs.SignalLaws.{DelayIsABlock};
+ghost use Rattle.session_play.specs.ValueLaws.{AttemptsAreAsked, NoticesAreMade};
 
 /// The values of a record are one, whatever the parts of its instances are.
 pub fn one_play<F, B>()
@@ -49,4 +50,11 @@ pub fn beginnings_keep_rules<S>()
 /// Over a cable with a delay comes in a block what came over it without one before the block began: in the first block that is nothing.
 pub fn a_delay_is_a_block<F, B>()
     ensures { DelayIsABlock F B }
+{}
+
+/// An attempt that keeps the rule on values is one that its call asks for, and a notice one that the run made and that wasn't told yet; each
+/// is as long as the record says.
+pub fn values_are_made<F, B>()
+    ensures attempts { AttemptsAreAsked F B }
+    ensures notices { NoticesAreMade F B }
 {}
