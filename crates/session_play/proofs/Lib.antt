@@ -5,3 +5,4 @@ pub mod Judged
 pub mod Prefixes
 pub mod Signals
 pub mod Values
+pub mod Endings

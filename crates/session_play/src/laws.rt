@@ -1,6 +1,6 @@
 ghost use Rattle.session_play.specs.Laws.{HasOnePlay, HasSomePlay, PlaysGoOn, HasSomeVerdict, HasOneViolation, LawfulHasNone, VerdictIsLawful, VerdictIsFirst, IsLawfulOrBroken, IsBrokenOnce, IsLawfulOnly, IsLawfulBesides, BeginningsKeepRules};
 ghost use Rattle.session_play.specs.SignalLaws.{DelayIsABlock};
-ghost use Rattle.session_play.specs.ValueLaws.{AttemptsAreAsked, NoticesAreMade};
+ghost use Rattle.session_play.specs.ValueLaws.{AttemptsAreAsked, NoticesAreMade, EndsByAnswers};
 
 /// The values of a record are one, whatever the parts of its instances are.
 pub fn one_play<F, B>()
@@ -57,4 +57,10 @@ pub fn a_delay_is_a_block<F, B>()
 pub fn values_are_made<F, B>()
     ensures attempts { AttemptsAreAsked F B }
     ensures notices { NoticesAreMade F B }
+{}
+
+/// A call that is open ends with what it gives under the answers that the record tells of: 0 for a send, 2 for a refusal, and 1 without end
+/// after them.
+pub fn calls_end_by_answers<F, B>()
+    ensures { EndsByAnswers F B }
 {}

@@ -5,6 +5,6 @@
 mod laws;
 
 pub use laws::{
-    a_delay_is_a_block, beginnings_keep_rules, judged_with_values, lawful_besides, one_play,
-    one_verdict, plays_go_on, some_play, some_verdict, values_are_made,
+    a_delay_is_a_block, beginnings_keep_rules, calls_end_by_answers, judged_with_values,
+    lawful_besides, one_play, one_verdict, plays_go_on, some_play, some_verdict, values_are_made,
 };
