@@ -7,20 +7,40 @@ use Rattle.base64.specs.Engines.{standard}
 use Rattle.base64.specs.GeneralPurpose.{encode_of}
 use Rattle.atom_core.specs.Place.{number_at, wide_at}
 use Rattle.urid_map.specs.Numbers.{uri_of}
-use Rattle.session_play.specs.Patch.{set_type, put_type, property_key, value_key, body_key, Property, properties_of}
+use Rattle.session_play.specs.Patch.{urid_kind, set_type, put_type, property_key, value_key, body_key, Property, properties_of}
 
 -- a URI by its number; a number that no URI has prints as a dash
 abbrev pub uri_text : List (List ℕ) → ℕ → List ℕ
 uri_text urids number = unwrap_or (uri_of urids number) (codes "-")
 
--- a value by the type of its atom, whose numbers are 1 Int, 2 Long, 3 Bool, 4 URID and 14 Fixed
+-- the numbers of the types of atoms whose values are written as numbers and URIs
+abbrev pub int_kind : ℕ
+int_kind = 1
+
+abbrev pub long_kind : ℕ
+long_kind = 2
+
+abbrev pub bool_kind : ℕ
+bool_kind = 3
+
+abbrev pub fixed_kind : ℕ
+fixed_kind = 14
+
+-- a number of four bytes, and one of eight
+abbrev pub short_text : Property → List ℕ
+short_text it = signed_decimal (cast_signed w32 (number_at it.body 0))
+
+abbrev pub wide_text : Property → List ℕ
+wide_text it = signed_decimal (cast_signed w64 (wide_at it.body 0))
+
+-- a value by the type of its atom
 abbrev pub value_text : List (List ℕ) → Property → List ℕ
 value_text urids it =
-    if it.kind == 1 then codes "int " ++ signed_decimal (cast_signed w32 (number_at it.body 0))
-    else if it.kind == 2 then codes "long " ++ signed_decimal (cast_signed w64 (wide_at it.body 0))
-    else if it.kind == 3 then codes "bool " ++ signed_decimal (cast_signed w32 (number_at it.body 0))
-    else if it.kind == 14 then codes "fixed " ++ signed_decimal (cast_signed w64 (wide_at it.body 0))
-    else if it.kind == 4 then codes "urid " ++ uri_text urids (number_at it.body 0)
+    if it.kind == int_kind then codes "int " ++ short_text it
+    else if it.kind == long_kind then codes "long " ++ wide_text it
+    else if it.kind == bool_kind then codes "bool " ++ short_text it
+    else if it.kind == fixed_kind then codes "fixed " ++ wide_text it
+    else if it.kind == urid_kind then codes "urid " ++ uri_text urids (number_at it.body 0)
     else codes "bytes " ++ (uri_text urids it.kind ++ (codes " " ++ encode_of standard it.body))
 
 -- the property with a key, as a text
