@@ -1,0 +1,5 @@
+pub mod Offers
+pub mod Turns
+pub mod OneThread
+pub mod Reserve
+pub mod Laws
