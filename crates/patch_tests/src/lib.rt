@@ -1,0 +1,5 @@
+//! Tests of the crates of atoms, over what they export.
+#![tactic(auto)]
+
+#[cfg(test)]
+mod tests;

@@ -1,0 +1,5 @@
+mod faults;
+mod objects;
+mod reading;
+mod requests;
+mod writing;
