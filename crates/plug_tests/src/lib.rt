@@ -1,0 +1,5 @@
+//! Tests of the stock codes.
+#![tactic(auto)]
+
+#[cfg(test)]
+mod tests;
