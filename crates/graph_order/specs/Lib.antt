@@ -5,3 +5,4 @@ pub mod Plans
 pub mod Cycles
 pub mod Search
 pub mod Answer
+pub mod Setup

@@ -7,8 +7,10 @@ mod graph;
 mod lines;
 mod plan;
 mod ports;
+mod setup;
 mod wiring;
 
 pub use fault::GraphFault;
 pub use graph::{one_answer, order, some_answer};
 pub use plan::Plan;
+pub use setup::Setup;
