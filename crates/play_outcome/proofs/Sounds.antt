@@ -13,7 +13,7 @@ use Rattle.record_law.specs.Entries.{is_kind}
 use Rattle.record_law.specs.History.{one_more}
 use Rattle.session_play.specs.Looking.{steps_of, doings, in_block}
 use Rattle.session_play.specs.Playing.{then_played, step_at, value_at}
-use Rattle.session_play.specs.Setup.{Setup}
+use Rattle.graph_order.specs.declared.setup.Setup.{Setup}
 use Rattle.session_play.specs.Value.{Moment, Play}
 use Rattle.play_outcome.specs.Counts.{number_of}
 use Rattle.play_outcome.specs.Pcm.{sample_bytes, channel_in, frame_bytes, block_bytes, sound_of}

@@ -6,7 +6,7 @@ use Rattle.record_law.specs.Entries.{is_kind}
 use Rattle.session_play.specs.Looking.{steps_of}
 use Rattle.session_play.specs.Playing.{playing}
 use Rattle.session_play.specs.Run.{Run}
-use Rattle.session_play.specs.Setup.{Setup}
+use Rattle.graph_order.specs.declared.setup.Setup.{Setup}
 use Rattle.session_play.specs.Value.{Play}
 use Rattle.play_outcome.specs.Counts.{number_of}
 use Rattle.play_outcome.specs.Pcm.{sound_of}

@@ -13,7 +13,7 @@ use Rattle.plug_api.specs.Sound.{silent}
 use Rattle.plug_api.specs.Signal.{nothing, samples_in}
 use Rattle.record_law.specs.Entries.{is_kind}
 use Rattle.session_play.specs.Looking.{doings, in_block}
-use Rattle.session_play.specs.Setup.{Setup}
+use Rattle.graph_order.specs.declared.setup.Setup.{Setup}
 use Rattle.session_play.specs.Signals.{output_in}
 use Rattle.session_play.specs.Value.{Play}
 

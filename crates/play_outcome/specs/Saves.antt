@@ -8,7 +8,7 @@ use Rattle.state_file.specs.StateText as text
 use Rattle.play_outcome.specs.Endings.{saved_by}
 use Rattle.session_play.specs.Looking.{urids_of}
 use Rattle.session_play.specs.Run.{Run, with_properties}
-use Rattle.session_play.specs.Setup.{Setup}
+use Rattle.graph_order.specs.declared.setup.Setup.{Setup}
 use Rattle.session_play.specs.Value.{Play}
 
 -- properties with the name of the instance and the URI of its plug-in

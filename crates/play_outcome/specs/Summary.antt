@@ -24,7 +24,8 @@ use Rattle.play_outcome.specs.Messages.{notice_text}
 use Rattle.session_play.specs.Run.{Run}
 use Rattle.play_outcome.specs.Saves.{saves_of, numbered}
 use Rattle.session_play.specs.SessionShape.{shape_of}
-use Rattle.session_play.specs.Setup.{Setup, ports_of}
+use Rattle.graph_order.specs.declared.setup.Setup.{Setup}
+use Rattle.session_play.specs.Setup.{ports_of}
 use Rattle.session_play.specs.Value.{Moment, Play, body_in}
 
 -- a count behind its name

@@ -13,7 +13,8 @@ use Rattle.record_law.specs.Message.Message.{notice}
 use Rattle.record_law.specs.Entries.{same_entry}
 use Rattle.session_play.specs.EventBytes.{events_at}
 use Rattle.session_play.specs.Patch.{is_message}
-use Rattle.session_play.specs.Setup.{Setup, reply_port}
+use Rattle.graph_order.specs.declared.setup.Setup.{Setup}
+use Rattle.session_play.specs.Setup.{reply_port}
 use Rattle.session_play.specs.Value.{Play, outputs_ended, given_in}
 
 -- an event is a message

@@ -8,7 +8,7 @@ use Rattle.state_store.specs.declared.prop.Prop.{Prop}
 use Rattle.urid_map.specs.Numbers.{with_uris}
 use Rattle.plug_api.specs.Meaning.{FrontMeaning, BackMeaning, CodesMeaning}
 use Rattle.session_play.specs.Patch.{named_in}
-use Rattle.session_play.specs.Setup.{Setup}
+use Rattle.graph_order.specs.declared.setup.Setup.{Setup}
 
 pub record Run (F B : Type 0) : Type 0 where
   pub setup : Setup

@@ -11,7 +11,8 @@ use Rattle.record_law.specs.declared.shape.ActionKind.TheVariants.{Set, Patch, S
 use Rattle.record_law.specs.declared.shape.Shape.{Shape}
 use Rattle.record_law.specs.declared.shape.ShapeAction.{ShapeAction}
 use Rattle.record_law.specs.declared.shape.ShapeInst.{ShapeInst}
-use Rattle.session_play.specs.Setup.{Setup, decl_of, reply_port}
+use Rattle.graph_order.specs.declared.setup.Setup.{Setup}
+use Rattle.session_play.specs.Setup.{decl_of, reply_port}
 
 -- it declares that it schedules work (LV2 worker, work:interface)
 abbrev pub works : Setup → ℕ → Bool

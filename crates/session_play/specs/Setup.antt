@@ -1,20 +1,11 @@
--- What a run rests on.
+-- What a setup says of its instances and actions.
 use Rattle.std.specs.Prelude.{ℕ, true, false, List, [], Option, slice_get}
 use Rattle.std.specs.Option.{option_map_or}
 use Rattle.plugin_decl.specs.declared.declaration.Decl.{Decl}
 use Rattle.plugin_decl.specs.declared.declaration.Port.{Port}
 use Rattle.plugin_decl.specs.MessagePorts.{message_port}
-use Rattle.session_script.specs.declared.session.Session.{Session}
 use Rattle.session_script.specs.declared.session.Action.{Action}
-use Rattle.state_store.specs.declared.prop.Prop.{Prop}
-use Rattle.graph_order.specs.declared.plan.Plan.{Plan}
-
--- the session, what each of its instances declares, the order in which they run, and the properties that each restore brings, in order
-pub record Setup : Type 0 where
-  pub session : Session
-  pub decls : List Decl
-  pub plan : Plan
-  pub states : List (List (ℕ × Prop))
+use Rattle.graph_order.specs.declared.setup.Setup.{Setup}
 
 -- what an instance declares
 abbrev pub decl_of : Setup → ℕ → Option Decl

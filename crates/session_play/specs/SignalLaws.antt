@@ -2,7 +2,7 @@
 use Rattle.std.specs.Prelude.{◌≡◌, true, false, [], ◌∷◌, ◌++◌}
 use Rattle.session_script.specs.declared.session.CableLine.{CableLine}
 use Rattle.session_play.specs.Looking.{is_block}
-use Rattle.session_play.specs.Setup.{Setup}
+use Rattle.graph_order.specs.declared.setup.Setup.{Setup}
 use Rattle.session_play.specs.Signals.{cable_signal}
 use Rattle.session_play.specs.Value.{Moment, Play}
 

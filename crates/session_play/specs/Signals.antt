@@ -29,7 +29,8 @@ use Rattle.record_law.specs.Message.Message.{input}
 use Rattle.session_play.specs.EventBytes.{events_at, bytes_of}
 use Rattle.session_play.specs.Looking.{in_block, before_block, outputs_of, newer}
 use Rattle.session_play.specs.Patch.{message_of}
-use Rattle.session_play.specs.Setup.{Setup, ports_of, patch_port, action_at}
+use Rattle.graph_order.specs.declared.setup.Setup.{Setup}
+use Rattle.session_play.specs.Setup.{ports_of, patch_port, action_at}
 use Rattle.session_play.specs.Value.{Moment, Play}
 
 -- ---- what outputs gave
