@@ -1,10 +1,10 @@
 -- A scheduler with room for two entries more than its attempts may have can mark a call.
-use Rattle.std.proofs.Common.{◌≡◌, ℕ, suc, ◌+◌, ◌<◌, List, sym, ◌∙◌, ap, arith}
+use Rattle.std.proofs.Common.{◌≡◌, ◌+◌, ◌<◌, ◌∙◌, ap, arith}
 use Rattle.plug_api.specs.Calls.{CanCall}
 use Rattle.step_record.specs.declared.tickets.Tickets.{Ghosts}
 use Rattle.worker_ring.specs.declared.list.ListAttempts.{ListAttempts}
 use Rattle.worker_ring.specs.Guard.{target_of, listed_in, list_can_mark, list_marked, list_went}
-use Rattle.worker_ring.proofs.Rooms.{HasRoom, written, steps_keep}
+use Rattle.worker_ring.proofs.Rooms.{written, steps_keep}
 
 pub can_call : {T : Type 0} {t : Ghosts T} (sched : ListAttempts T t) → sched.room + 1 < t.left sched.tickets.now
     → sched.room + 1 < sched.log.now.spare

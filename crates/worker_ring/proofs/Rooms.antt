@@ -1,9 +1,8 @@
 -- Attempts leave room for the mark of the call's end.
-use Rattle.std.proofs.Common.{◌≡◌, ℕ, zero, suc, ◌+◌, ◌-◌, ◌<◌, ◌≤◌, List, [], ◌∷◌, sym, ◌∙◌, ap, subst, refl, arith}
+use Rattle.std.proofs.Common.{◌≡◌, ℕ, zero, suc, ◌+◌, ◌-◌, ◌<◌, List, [], ◌∷◌, sym, ap, subst, refl, arith}
 use Rattle.interaction.specs.Attempts.{Attempt}
 use Rattle.step_law.specs.declared.entry.Entry.{Entry}
 use Rattle.step_record.specs.Log.{Logged, Writes}
-use Rattle.worker_ring.specs.Attempting.{InSteps}
 use Rattle.worker_ring.specs.Listing.{Target, Listed, Marked, ListStep, ListSteps}
 
 module _ {S R : Type 0} (left : S → ℕ) (drawn : S → List ℕ) (rest : S → R) where

@@ -1,5 +1,5 @@
 -- A scheduler over a list, as a value: where its attempts go, what it was lent, and what that holds.
-use Rattle.std.specs.Prelude.{ℕ, ◌<◌, List, [], ◌++◌}
+use Rattle.std.specs.Prelude.{ℕ, ◌<◌, List}
 use Rattle.interaction.specs.Attempts.{Attempt}
 use Rattle.step_law.specs.declared.entry.Entry.{Entry}
 use Rattle.plug_api.specs.Chains.{ChainsAttempts}

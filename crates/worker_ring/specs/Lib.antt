@@ -1,3 +1,5 @@
 pub mod Attempting
 pub mod Listing
 pub mod Guard
+pub mod Answering
+pub mod AnswerGuard
