@@ -141,12 +141,16 @@ impl<M: Drop> Cable<M> {
         let Ok(mut rings) = with_room(self.alloc, count, cells) else {
             return Err((NoMemory, self, passes));
         };
+        let Some(mut desk) = self.desk.take(0).1 else {
+            return Err((NoMemory, self, passes));
+        };
         let Cable {
             table,
-            mut desk,
+            desk: perch,
             layout,
             alloc: _,
         } = self;
+        mem::drop(perch);
         mem::drop(layout);
         gather(&table.shared, &mut desk, passes);
         let mut closed = table.close_with(desk);

@@ -11,9 +11,10 @@ use crate::layout::{Layout, Top};
 use crate::pass::{Count, Pass, Place};
 use crate::plays::HandOut;
 use crate::view::RingSpec;
-use atomic_table::Table;
+use atomic_table::{Perch, Table};
 use lv_base::NoMemory;
 use std::alloc::Global;
+use std::mem;
 
 // Hands out the passes of all actors, in order.
 fn hand_out<M: Drop>(
@@ -67,10 +68,12 @@ impl<M: Drop> Cable<M> {
         let cell_count = rings.len() * cells as usize;
         let (table, mut desk) = Table::vacant(alloc, words.as_slice(), cell_count, &layout)?;
         let passes = hand_out(alloc, &table.shared, &mut desk, &layout)?;
+        let perch = Perch::new(&desk, 0);
+        mem::drop(perch.give(desk, 0, 2));
         Ok((
             Cable {
                 table,
-                desk,
+                desk: perch,
                 layout,
                 alloc,
             },

@@ -1,12 +1,15 @@
 -- A token stays one that a test may use.
-use Rattle.std.proofs.Common.{◌≡◌, ℕ, suc, ◌+◌, List, [], ◌∷◌, ◌++◌, length, refl, sym, ap, subst, ◌∙◌, length-append, arith}
+use Rattle.std.proofs.Common.{◌≡◌, ℕ, zero, suc, ◌+◌, List, [], ◌∷◌, ◌++◌, length, refl, sym, ap, subst, ◌∙◌, length-append, arith}
 use Rattle.atomic_table.specs.Seated.{TableId}
 use Rattle.atomic_table.proofs.Lists.{at_last, at_longer}
 use Rattle.cable_trace.specs.declared.trace.Action.{Action}
 use Rattle.cable_ring.specs.declared.view.Plan.{Plan}
 use Rattle.cable_ring.specs.Passes.{PassView, noted, sender_at, taker_at}
+use mathlib.Core.Option.{some, some-injective, some-ne-none}
+use lib.ListN.{get_elem?}
 use Rattle.cable_ring.specs.Opened.{plan_with, new_pass, AreOpened}
-use Rattle.cable_tests.specs.Ready.{IsReady}
+use Rattle.cable_ring.specs.Closed.{AreAllPasses}
+use Rattle.cable_tests.specs.Ready.{one_ring, IsReady}
 
 -- the last of opened tokens, and the others
 pub opened_last : (table : TableId) (plan : Plan) (n : ℕ) (passes : List (PassView ℕ)) (pass : PassView ℕ) → AreOpened table plan (n + 1) (passes ++ pass ∷ [])
@@ -35,3 +38,13 @@ ready_sends table most pass h = ap (λ (q : Plan). sender_at q.rings 0) h.plan_i
 
 pub ready_takes : (table : TableId) (most : ℕ) (pass : PassView ℕ) → IsReady table 1 most pass → taker_at pass.plan.rings 0 ≡ suc pass.actor
 ready_takes table most pass h = ap (λ (q : Plan). taker_at q.rings 0) h.plan_is ∙ ap suc (sym h.actor_is)
+
+-- the tokens of both actors are all
+pub all_two : (table : TableId) (plan : Plan) (sender taker : PassView ℕ) → plan ≡ one_ring → (sender.table ≡ table) × (sender.actor ≡ 0) × (taker.table ≡ table) × (taker.actor ≡ 1)
+    → AreAllPasses table plan (sender ∷ taker ∷ [])
+all_two table plan sender taker is ends = record { all = sym (ap (λ (q : Plan). q.actors) is); each = at }
+  where
+    at : (actor : ℕ) (pass : PassView ℕ) → get_elem? (sender ∷ taker ∷ []) actor ≡ some pass → (pass.table ≡ table) × (pass.actor ≡ actor)
+    at zero pass e = subst (λ (p : PassView ℕ). (p.table ≡ table) × (p.actor ≡ 0)) (some-injective sender pass e) (ends.0, ends.1)
+    at (suc zero) pass e = subst (λ (p : PassView ℕ). (p.table ≡ table) × (p.actor ≡ 1)) (some-injective taker pass e) (ends.2, ends.3)
+    at (suc (suc actor)) pass e = absurd (some-ne-none pass (sym e))

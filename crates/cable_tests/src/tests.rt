@@ -1,1 +1,2 @@
 mod rings;
+mod threads;

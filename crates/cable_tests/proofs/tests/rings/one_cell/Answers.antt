@@ -5,8 +5,8 @@ use Rattle.cable_ring.specs.Tables.{table_of}
 use Rattle.cable_tests.proofs.Readies.{opened_last, ready_new}
 use Rattle.cable_tests.proofs.tests.rings.one_cell.Goals as goal
 
-pub returns : goal.returns
-returns c =
+pub returns-clause-tokens : goal.returns-clause-tokens
+returns-clause-tokens c =
     let plan = plan_with 0 1 2 (record { from = 0; to = 1 } ∷ []) in
     let table = table_of c.in_ok-cable.cable in
     let both : AreOpened table plan 2 c.in_ok-cable.passes.items = c.in_ok-cable.ensures.passes in
