@@ -1,9 +1,9 @@
 -- What the rule on values says.
-use Rattle.std.proofs.Common.{◌≡◌, ℕ, Bool, true, false, not, List, [], ◌∷◌, Option, Some, None, refl, sym, ap, ◌∙◌, true≢false}
+use Rattle.std.proofs.Common.{◌≡◌, ℕ, Bool, true, false, List, [], ◌∷◌, Option, Some, None, refl, sym, true≢false}
 use Rattle.interaction.specs.Interaction.{Interaction, done, ask}
 use Rattle.session_play.specs.Looking.{open_call}
 use Rattle.session_play.specs.Notices.{untold}
-use Rattle.session_play.specs.Value.{Ending, Play}
+use Rattle.session_play.specs.Value.{Ending}
 use Rattle.session_play.specs.ValueRule.{is_long, same, attempts_so, tells_so}
 use Rattle.session_play.specs.ValueLaws.{AttemptsAreAsked, NoticesAreMade}
 

@@ -1,5 +1,5 @@
 -- Worked records, by computation.
-use Rattle.std.proofs.Common.{◌≡◌, ℕ, Bool, true, false, List, [], ◌∷◌, ◌++◌, None, refl}
+use Rattle.std.proofs.Common.{true, false, [], ◌∷◌, ◌++◌, refl}
 use Rattle.std.specs.Fmt.{digits}
 use Rattle.urid_map.specs.Numbers.{with_uris}
 use Rattle.atom_core.specs.Place.{number_at, wide_at}
@@ -7,14 +7,9 @@ use Rattle.atom_core.specs.Spelling.{u32, i32, i64}
 use Rattle.record_law.specs.declared.shape.Broken.TheVariants.{Value}
 use Rattle.record_law.specs.Case.{drop_line, double_line, put_line}
 use Rattle.step_law.specs.declared.actor.Actor.TheVariants.{Audio}
-use Rattle.step_law.specs.declared.entry.Entry.{Entry}
 use Rattle.step_law.specs.declared.ring.Ring.TheVariants.{Jobs}
 use Rattle.step_law.specs.Entry.{long_of}
-use Rattle.session_play.specs.Rules.{judged}
-use Rattle.session_play.specs.Run.{Run}
-use Rattle.one_thread.specs.OneThread.{all_come}
 use Rattle.one_thread.proofs.Tests.{tests_say}
-use Rattle.worked_plays.specs.Codes.{Front, Back}
 use Rattle.worked_plays.specs.Sessions.{amplified, amplified_steps, bursting, bursting_steps, empty_steps, fetching, fetching_steps, telling, telling_steps}
 use Rattle.worked_plays.specs.Shows.{PlaysAs, Breaks, times, amplified_summary, empty_summary, fetching_summary, bursting_summary, telling_summary}
 

@@ -9,9 +9,6 @@ use Rattle.interaction.specs.Interaction.{Interaction, done, ask}
 use Rattle.atom_core.specs.Place.{wide_at}
 use Rattle.atom_core.specs.Value.{urid, fixed, object, keyed, plain, holding, none, part}
 use Rattle.atom_sequence.specs.Event.{Event}
-use Rattle.plugin_decl.specs.declared.declaration.Decl.{Decl}
-use Rattle.plugin_decl.specs.declared.options.Options.{Options}
-use Rattle.state_store.specs.declared.prop.Prop.{Prop}
 use Rattle.plug_api.specs.Sound.{silent}
 use Rattle.plug_api.specs.Signal.{Signal, sound, control, events}
 use Rattle.plug_api.specs.Inputs.{Inputs, Outputs, samples_at, value_at}

@@ -1,5 +1,5 @@
 -- What is expected of the worked records.
-use Rattle.std.specs.Prelude.{◌≡◌, ℕ, List, [], ◌∷◌, ◌++◌, flat_map, codes, Option, None, Some}
+use Rattle.std.specs.Prelude.{◌≡◌, ℕ, List, ◌++◌, flat_map, codes, Some}
 use Rattle.std.specs.List.{range_with_len}
 use Rattle.step_law.specs.declared.entry.Entry.{Entry}
 use Rattle.record_law.specs.declared.shape.Broken.{Broken}

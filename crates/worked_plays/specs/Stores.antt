@@ -1,21 +1,21 @@
 -- Two codes with a state to play worked records with: one that keeps a level, and one that takes and answers messages about it.
-use Rattle.std.specs.Prelude.{ℕ, zero, suc, true, false, ◌+◌, ◌+ℤ◌, ◌==◌, ◌&&◌, Bool, ℤ, pos, List, [], ◌∷◌, ◌++◌, drop, find, length, map, replicate, slice_index_or, if◌then◌else◌, codes, Option, None, Some, option_map}
+use Rattle.std.specs.Prelude.{ℕ, true, ◌+◌, ◌+ℤ◌, ◌==◌, ℤ, pos, List, [], ◌∷◌, ◌++◌, drop, find, length, map, replicate, if◌then◌else◌, codes, Option, None, Some, option_map}
 use Rattle.std.specs.Int.{w64, to_le_bytes, cast_signed, cast_unsigned}
 use Rattle.std.specs.Option.{option_map_or}
 use Rattle.std.specs.Str.{bytes_eq}
 use Rattle.lv_base.specs.Number.{clamped}
 use Rattle.interaction.specs.Interaction.{Interaction, done, ask}
 use Rattle.atom_core.specs.Place.{number_at, wide_at}
-use Rattle.atom_core.specs.Value.{urid, fixed, object, keyed, Value, plain, other, holding, Parts, none, part}
+use Rattle.atom_core.specs.Value.{urid, fixed, object, keyed, Value, plain, other, holding, none, part}
 use Rattle.atom_sequence.specs.Event.{Event}
 use Rattle.state_store.specs.declared.prop.Prop.{Prop}
 use Rattle.state_store.specs.Properties.{held}
 use Rattle.plug_api.specs.Signal.{events, sound}
 use Rattle.plug_api.specs.Inputs.{Inputs, Outputs, value_at, events_at}
-use Rattle.plug_api.specs.Meaning.{FrontMeaning, BackMeaning, CodesMeaning, Making, made, refused}
+use Rattle.plug_api.specs.Meaning.{FrontMeaning, BackMeaning, CodesMeaning, Making, made}
 use Rattle.session_play.specs.EventBytes.{bytes_of}
 use Rattle.session_play.specs.EventBytes as bytes
-use Rattle.session_play.specs.Patch.{get_type, set_type, put_type, property_key, value_key, body_key, Property, properties_of}
+use Rattle.session_play.specs.Patch.{set_type, put_type, property_key, value_key, body_key, Property, properties_of}
 use Rattle.session_play.specs.Signals.{at_start}
 
 -- the first URIs, whatever they are, then that of the host's fixed numbers, and the key of a level
