@@ -16,10 +16,6 @@ use Rattle.step_law.specs.declared.entry.Entry.{Entry}
 use Rattle.step_law.specs.declared.ring.Ring.TheVariants.{ControlToAudio, AudioToControl, ControlToWorker, Jobs, Responses}
 use Rattle.step_law.specs.Entry.{block_of, done_of, look_of, take_of, send_of, full_of, begin_of, end_of, stop_of, beat_of, join, last}
 use Rattle.session_play.specs.Run.{Run}
-<<<<<<< HEAD
-use Rattle.graph_order.specs.declared.setup.Setup.{Setup}
-=======
->>>>>>> 5780c9360c46bb60a8f3c3f60983084981ab2ef2
 use Rattle.worked_plays.specs.Codes.{Front, Back, fronts, backs, makers, ones}
 
 -- ---- declarations
