@@ -1,3 +1,6 @@
 mod files;
 mod jobs;
+mod reading;
+mod rules;
 mod shelves;
+mod sizes;

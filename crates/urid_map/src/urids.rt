@@ -1,4 +1,4 @@
-ghost use Rattle.std.specs.Prelude.{◌≡◌, ◌↔◌, ◌<◌, ◌≤◌, ◌+◌, ◌^◌, [], length, map, true, false, IsTrue, IfSome, IfOk, OnOk, OnErr, IsErrOf, Ok};
+ghost use Rattle.std.specs.Prelude.{◌≡◌, ◌↔◌, ◌<◌, ◌≤◌, ◌+◌, ◌^◌, [], length, map, true, false, if◌then◌else◌, IsTrue, IfSome, IfOk, OnOk, OnErr, IsErrOf, Ok, Some, None};
 ghost use Rattle.std.specs.List.{list_all};
 ghost use Rattle.std.specs.Option.{option_copied};
 ghost use Rattle.iri_resolve.specs.Iri as iri;
@@ -111,6 +111,15 @@ impl Urids {
     {
         let (place, _) = self.uris.insert_full(uri.clone()?)?;
         Ok(place as u32 + 1)
+    }
+
+    /// The number of a URI, `None` exactly where it has none. It takes no memory.
+    pub fn number(&self, uri: &Text) -> Option<u32>
+        ensures value { result ≡ (if holds self.now uri.now then Some (number_of self.now uri.now) else None) }
+        ensures held { IfSome result (λ number. number ≤ length self.now) }
+    {
+        let place = self.uris.get_index_of(uri)?;
+        Some(place as u32 + 1)
     }
 
     /// The URI with this number, `None` exactly for 0 and for numbers that no URI has. It takes no memory.

@@ -1,5 +1,6 @@
+use crate::tests::reading::{read_over, store_of};
 use lv_base::{Bytes, NoMemory, Text};
-use state_file::{Saved, write};
+use state_file::{Saved, read, write};
 use state_store::Shelf;
 use std::alloc::Global;
 use std::test::Fail;
@@ -52,5 +53,46 @@ fn writes_the_states_of_tanks(rt: HostRuntime) -> Result<(), Fail> {
     saves.push(tank(rt.alloc(), &mut urids, &[0, 0, 128, 0, 0, 0, 0, 0])?)?;
     let text = write(rt.alloc(), saves.as_slice(), &urids)?;
     assert!(rt; text.as_slice() == TANKS.as_bytes());
+    Ok(())
+}
+
+fn has_level(saved: &Saved, key: u32, level: &[u8]) -> bool {
+    saved.name.as_str() == "t"
+        && saved.uri.as_str() == "urn:lv2fx:tank"
+        && saved.props.retrieve(key).is_some_and(|prop| {
+            prop.kind == 14 && prop.flags == 3 && prop.bytes.as_slice() == level
+        })
+}
+
+/// The key is new and gets the number 26; the type had the number 14.
+#[test]
+fn reads_the_states_of_tanks(rt: HostRuntime) -> Result<(), Fail> {
+    let mut urids = Urids::new(rt.alloc())?;
+    let store = store_of(rt.alloc(), TANKS.as_bytes())?;
+    let saves = read(rt.alloc(), &store, &mut urids)?;
+    assert!(rt; saves.len() == 2 && urids.held() == 26);
+    assert!(rt; has_level(&saves[0], 26, &[0, 0, 0, 0, 0, 0, 0, 0]));
+    assert!(rt; has_level(&saves[1], 26, &[0, 0, 128, 0, 0, 0, 0, 0]));
+    Ok(())
+}
+
+/// The numbers of four URIs.
+fn numbers(alloc: Global, urids: &Urids) -> Result<[Option<u32>; 4], Fail> {
+    Ok([
+        urids.number(&Text::from_str(alloc, "urn:z")?),
+        urids.number(&Text::from_str(alloc, "urn:t")?),
+        urids.number(&Text::from_str(alloc, "urn:a")?),
+        urids.number(&Text::from_str(alloc, "urn:p")?),
+    ])
+}
+
+/// Of each property first the key gets a number, then the type, in order of the states and of their triples; URIs of plug-ins get none.
+#[test]
+fn maps_in_order(rt: HostRuntime) -> Result<(), Fail> {
+    let mut urids = Urids::new(rt.alloc())?;
+    let states = "<#s> a fx:Saved ; fx:name \"s\" ; fx:plugin <urn:p> ; state:state [ <urn:z> <#good> ; <urn:a> <#empty> ] .";
+    let saves = read_over(rt.alloc(), states, &mut urids)??;
+    assert_eq!(rt; saves.len(), 1);
+    assert!(rt; numbers(rt.alloc(), &urids)? == [Some(26), Some(27), Some(28), None]);
     Ok(())
 }

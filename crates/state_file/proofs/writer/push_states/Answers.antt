@@ -1,5 +1,5 @@
 use Rattle.std.proofs.Common.{◌∙◌}
-use Rattle.state_file.proofs.States.{states_more}
+use Rattle.state_file.proofs.StatesText.{states_more}
 use Rattle.state_file.proofs.writer.push_states.Goals as goal
 
 pub loop-number-preserved : goal.loop-number-preserved
