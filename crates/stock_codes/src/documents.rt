@@ -79,6 +79,72 @@ const ECHO: &str = "@prefix doap: <http://usefulinc.com/ns/doap#> .
   ] .
 ";
 
+const FETCH: &str = "@prefix doap: <http://usefulinc.com/ns/doap#> .
+@prefix lv2: <http://lv2plug.in/ns/lv2core#> .
+@prefix work: <http://lv2plug.in/ns/ext/worker#> .
+
+<urn:lv2fx:fetch>
+  a lv2:Plugin ;
+  doap:name \"Fetch\" ;
+  lv2:optionalFeature lv2:hardRTCapable , work:schedule ;
+  lv2:extensionData work:interface ;
+  lv2:port [
+    a lv2:OutputPort , lv2:AudioPort ;
+    lv2:index 0 ; lv2:symbol \"out\" ; lv2:name \"Out\"
+  ] , [
+    a lv2:OutputPort , lv2:ControlPort ;
+    lv2:index 1 ; lv2:symbol \"refused\" ; lv2:name \"Refused\"
+  ] .
+";
+
+const BURST: &str = "@prefix doap: <http://usefulinc.com/ns/doap#> .
+@prefix lv2: <http://lv2plug.in/ns/lv2core#> .
+@prefix work: <http://lv2plug.in/ns/ext/worker#> .
+
+<urn:lv2fx:burst>
+  a lv2:Plugin ;
+  doap:name \"Burst\" ;
+  lv2:optionalFeature lv2:hardRTCapable , work:schedule ;
+  lv2:extensionData work:interface ;
+  lv2:port [
+    a lv2:InputPort , lv2:ControlPort ;
+    lv2:index 0 ; lv2:symbol \"jobs\" ; lv2:name \"Jobs\" ;
+    lv2:default 3.0
+  ] , [
+    a lv2:InputPort , lv2:ControlPort ;
+    lv2:index 1 ; lv2:symbol \"size\" ; lv2:name \"Size\" ;
+    lv2:default 8.0
+  ] , [
+    a lv2:OutputPort , lv2:ControlPort ;
+    lv2:index 2 ; lv2:symbol \"ok\" ; lv2:name \"Taken\"
+  ] , [
+    a lv2:OutputPort , lv2:ControlPort ;
+    lv2:index 3 ; lv2:symbol \"refused\" ; lv2:name \"Refused\"
+  ] , [
+    a lv2:OutputPort , lv2:AudioPort ;
+    lv2:index 4 ; lv2:symbol \"out\" ; lv2:name \"Out\"
+  ] .
+";
+
+const KEEP: &str = "@prefix doap: <http://usefulinc.com/ns/doap#> .
+@prefix lv2: <http://lv2plug.in/ns/lv2core#> .
+@prefix state: <http://lv2plug.in/ns/ext/state#> .
+
+<urn:lv2fx:keep>
+  a lv2:Plugin ;
+  doap:name \"Keep\" ;
+  lv2:optionalFeature lv2:hardRTCapable ;
+  lv2:extensionData state:interface ;
+  lv2:port [
+    a lv2:OutputPort , lv2:AudioPort ;
+    lv2:index 0 ; lv2:symbol \"out\" ; lv2:name \"Out\"
+  ] , [
+    a lv2:InputPort , lv2:ControlPort ;
+    lv2:index 1 ; lv2:symbol \"value\" ; lv2:name \"Value\" ;
+    lv2:default 0.0
+  ] .
+";
+
 /// The declaration that comes with a code: a Turtle document.
 pub(crate) fn document_of(name: StockName) -> &'static str
     ensures { result.now ≡ documents.document_of name }
@@ -88,5 +154,8 @@ pub(crate) fn document_of(name: StockName) -> &'static str
         StockName::Amp => AMPLIFIER,
         StockName::Mix => MIXER,
         StockName::Echo => ECHO,
+        StockName::Fetch => FETCH,
+        StockName::Burst => BURST,
+        StockName::Keep => KEEP,
     }
 }

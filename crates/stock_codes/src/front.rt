@@ -1,5 +1,7 @@
 use plug_api::{Front, Ports, Sched};
+use stock_jobs::{BurstFront, FetchFront};
 use stock_sound::{Amplifier, Constant, Echo, Mixer};
+use stock_state::KeepFront;
 
 /// A front of a stock code.
 #[derive(Drop)]
@@ -8,6 +10,9 @@ pub enum StockFront {
     Amplifier(Amplifier),
     Mixer(Mixer),
     Echo(Echo),
+    Fetch(FetchFront),
+    Burst(BurstFront),
+    Keep(KeepFront),
 }
 
 impl Front for StockFront {
@@ -21,6 +26,9 @@ impl Front for StockFront {
             StockFront::Amplifier(front) => front.activate(),
             StockFront::Mixer(front) => front.activate(),
             StockFront::Echo(front) => front.activate(),
+            StockFront::Fetch(front) => front.activate(),
+            StockFront::Burst(front) => front.activate(),
+            StockFront::Keep(front) => front.activate(),
         }
     }
 
@@ -30,6 +38,9 @@ impl Front for StockFront {
             StockFront::Amplifier(front) => front.deactivate(),
             StockFront::Mixer(front) => front.deactivate(),
             StockFront::Echo(front) => front.deactivate(),
+            StockFront::Fetch(front) => front.deactivate(),
+            StockFront::Burst(front) => front.deactivate(),
+            StockFront::Keep(front) => front.deactivate(),
         }
     }
 
@@ -39,6 +50,9 @@ impl Front for StockFront {
             StockFront::Amplifier(front) => front.run(ports, sched),
             StockFront::Mixer(front) => front.run(ports, sched),
             StockFront::Echo(front) => front.run(ports, sched),
+            StockFront::Fetch(front) => front.run(ports, sched),
+            StockFront::Burst(front) => front.run(ports, sched),
+            StockFront::Keep(front) => front.run(ports, sched),
         }
     }
 
@@ -48,6 +62,9 @@ impl Front for StockFront {
             StockFront::Amplifier(front) => front.work_response(body),
             StockFront::Mixer(front) => front.work_response(body),
             StockFront::Echo(front) => front.work_response(body),
+            StockFront::Fetch(front) => front.work_response(body),
+            StockFront::Burst(front) => front.work_response(body),
+            StockFront::Keep(front) => front.work_response(body),
         }
     }
 
@@ -57,6 +74,9 @@ impl Front for StockFront {
             StockFront::Amplifier(front) => front.end_run(),
             StockFront::Mixer(front) => front.end_run(),
             StockFront::Echo(front) => front.end_run(),
+            StockFront::Fetch(front) => front.end_run(),
+            StockFront::Burst(front) => front.end_run(),
+            StockFront::Keep(front) => front.end_run(),
         }
     }
 }

@@ -8,6 +8,9 @@ pub enum StockName {
     Amp,
     Mix,
     Echo,
+    Fetch,
+    Burst,
+    Keep,
 }
 
 impl StockName {
@@ -20,7 +23,19 @@ impl StockName {
             "urn:lv2fx:amp" => Some(StockName::Amp),
             "urn:lv2fx:mix" => Some(StockName::Mix),
             "urn:lv2fx:echo" => Some(StockName::Echo),
-            _ => None,
+            _ => working(uri),
         }
+    }
+}
+
+// The code with this URI, of those that have a worker or a state.
+fn working(uri: &str) -> Option<StockName>
+    ensures { result ≡ names.working uri.now }
+{
+    match uri {
+        "urn:lv2fx:fetch" => Some(StockName::Fetch),
+        "urn:lv2fx:burst" => Some(StockName::Burst),
+        "urn:lv2fx:keep" => Some(StockName::Keep),
+        _ => None,
     }
 }

@@ -10,6 +10,7 @@ use plug_api::{Codes, MakeFault};
 use plugin_decl::{Decl, Options};
 use state_store::Props;
 use std::alloc::Global;
+use stock_state::restore_keep;
 use urid_map::Urids;
 
 /// The number of a refusal: a port of the code isn't declared with its index, direction and kind.
@@ -18,7 +19,7 @@ const NO_PORT: u32 = 1;
 /// The status of a call of which a code knows nothing.
 const UNKNOWN: u8 = 1;
 
-/// The stock codes: `urn:lv2fx:const`, `amp`, `mix` and `echo`.
+/// The stock codes: `urn:lv2fx:const`, `amp`, `mix`, `echo`, `fetch`, `burst` and `keep`.
 #[derive(Clone, Copy, Debug)]
 pub struct Stock;
 
@@ -37,21 +38,27 @@ impl Codes for Stock {
 
     fn make(
         &self,
-        _alloc: Global,
+        alloc: Global,
         decl: &Decl,
         _rate: u32,
         _options: &Options,
-        _urids: &mut Urids,
+        urids: &mut Urids,
     ) -> Result<(StockFront, StockBack), MakeFault> {
         match StockName::of(decl.uri.as_str()) {
             None => Err(MakeFault::NoCode),
-            Some(name) if has_ports(name, decl.ports.as_slice()) => Ok(parts_of(name)),
+            Some(name) if has_ports(name, decl.ports.as_slice()) => parts_of(alloc, name, urids),
             Some(_) => Err(MakeFault::Refused(NO_PORT)),
         }
     }
 
-    fn restore(&self, _front: &mut StockFront, _back: &mut StockBack, _from: &Props) -> u8 {
-        UNKNOWN
+    fn restore(&self, front: &mut StockFront, back: &mut StockBack, from: &Props) -> u8 {
+        match front {
+            StockFront::Keep(front) => match back {
+                StockBack::Keep(back) => restore_keep(front, back, from),
+                _ => UNKNOWN,
+            },
+            _ => UNKNOWN,
+        }
     }
 }
 
