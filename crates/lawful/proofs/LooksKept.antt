@@ -22,7 +22,7 @@ use Rattle.record_law.specs.History.{one_more, count, own, settled, progress_in}
 use Rattle.record_law.specs.Shape.{sender}
 use Rattle.record_law.specs.Looks.{shown_by, shows_enough, shows_no_more, last_shows_no_more}
 use Rattle.record_law.specs.Protocol.{done_in, after, history_of}
-use Rattle.lawful.specs.Merged.{entries_in, HaveOneActorAnEnd, LooksKeepRules}
+use Rattle.lawful.specs.Merged.{entries_in, KeepRules, LooksKeepRules}
 use Rattle.lawful.proofs.Counts.{send_same, sends_before, takes_before}
 use Rattle.lawful.proofs.Progress.{newest, all_first, known, IsKnown, worths_known, AreWithin, within_after}
 
@@ -115,16 +115,6 @@ all_by a actor ring (m ∷ ms) number all =
     (sym (λ i. send_same m.1.kind i && (m.1.a == number i)) ∙ send))
     (all_by a actor ring ms number (All-tail (λ mark. is_marked is_send a mark ≡ true → mark.1.actor ≡ actor) m ms all))
 
--- a kind of entries that sends
-sends_by : (a : ℕ) (source : ℕ → ℕ) (marks : List (ℕ × Entry)) → All (λ mark. is_send mark.1.kind ≡ true → mark.1.actor ≡ source mark.1.a) marks
-    → All (λ mark. is_marked is_send a mark ≡ true → mark.1.actor ≡ source a) marks
-sends_by a source [] all = All-nil (λ (mark : ℕ × Entry). is_marked is_send a mark ≡ true → mark.1.actor ≡ source a)
-sends_by a source (m ∷ ms) all =
-    All-cons (λ (mark : ℕ × Entry). is_marked is_send a mark ≡ true → mark.1.actor ≡ source a) m ms
-    (λ is. let both = and_parts (is_send m.1.kind) (m.1.a == a) is in
-    All-head (λ (mark : ℕ × Entry). is_send mark.1.kind ≡ true → mark.1.actor ≡ source mark.1.a) m ms all both.0 ∙ ap source (eqb-true m.1.a a both.1))
-    (sends_by a source ms (All-tail (λ (mark : ℕ × Entry). is_send mark.1.kind ≡ true → mark.1.actor ≡ source mark.1.a) m ms all))
-
 is_enough : (s : Shape) (h : History) (kind : Kind) (a b : ℕ)
     → (is_look kind ≡ true → count Send (ring_at a) (settled (sender s (ring_at a)) h) ≤ shown_by (ring_at a) h b)
     → (is_beat kind ≡ true → list_all (λ progress. nat_le progress a) (progress_in s (settled Audio h)) ≡ true) → shows_enough s h kind a b ≡ true
@@ -132,7 +122,7 @@ is_enough s h Look a b look beat = le-leb (count Send (ring_at a) (settled (send
 is_enough s h Beat a b look beat = beat refl
 is_enough s h kind a b look beat = refl
 
-module _ (s : Shape) (source target : ℕ → ℕ) (marks before later : List (ℕ × Entry)) (mark : ℕ × Entry) (run : HaveOneActorAnEnd s source target marks) (split : marks ≡ before ++ mark ∷ later) where
+module _ (s : Shape) (source target : ℕ → ℕ) (marks before later : List (ℕ × Entry)) (mark : ℕ × Entry) (run : KeepRules s source target marks) (split : marks ≡ before ++ mark ∷ later) where
   abbrev past : History
   past = history_of s (entries_in before)
 
@@ -155,7 +145,7 @@ module _ (s : Shape) (source target : ℕ → ℕ) (marks before later : List (�
       all_by a (source a) ring l.first (ring_same a)
       (all_first (λ (mark : ℕ × Entry). is_marked is_send a mark ≡ true → mark.1.actor ≡ source a) l.first (l.mark ∷ l.second)
       (all_first (λ (mark : ℕ × Entry). is_marked is_send a mark ≡ true → mark.1.actor ≡ source a) (l.first ++ l.mark ∷ l.second) (mark ∷ later)
-      (subst (λ (it : List (ℕ × Entry)). All (λ mark. is_marked is_send a mark ≡ true → mark.1.actor ≡ source a) it) (whole actor l) (sends_by a source marks run.sends)))) in
+      (subst (λ (it : List (ℕ × Entry)). All (λ mark. is_marked is_send a mark ≡ true → mark.1.actor ≡ source a) it) (whole actor l) (run.rings a).ends.sends))) in
       let mine : All (ByActor s actor ring) l.first = subst (λ (n : ℕ). All (λ mark. is_on Send ring mark.1 ≡ true → mark.1.actor ≡ n) l.first) (run.senders a) here in
       let sent = own_sends s actor ring [] l.first refl mine in
       let settled_is = ap (λ (h : History). count Send ring (drop 1 h)) l.steps in
@@ -212,7 +202,7 @@ look_is_no_take : (kind : Kind) → is_look kind ≡ true → is_take kind ≡ f
 look_is_no_take Take is = absurd (true≢false (sym is))
 look_is_no_take kind is = refl
 
-module _ (s : Shape) (source target : ℕ → ℕ) (marks before later : List (ℕ × Entry)) (mark : ℕ × Entry) (run : HaveOneActorAnEnd s source target marks) (split : marks ≡ before ++ mark ∷ later) (l : LastOwn s (actor_at mark.1.actor) [] before) where
+module _ (s : Shape) (source target : ℕ → ℕ) (marks before later : List (ℕ × Entry)) (mark : ℕ × Entry) (run : KeepRules s source target marks) (split : marks ≡ before ++ mark ∷ later) (l : LastOwn s (actor_at mark.1.actor) [] before) where
   abbrev gone : History
   gone = history_of s (entries_in before)
 
@@ -231,33 +221,33 @@ module _ (s : Shape) (source target : ℕ → ℕ) (marks before later : List (�
 
   -- after its last entry an actor takes nothing
   takes_none : (ms : List (ℕ × Entry)) (a : ℕ) → target a ≡ mark.1.actor → NoneBy (actor_at mark.1.actor) ms
-      → All (λ m. is_take m.1.kind ≡ true → m.1.actor ≡ target m.1.a) ms → All (λ m. is_marked is_take a m ≡ false) ms
+      → All (λ m. is_marked is_take a m ≡ true → m.1.actor ≡ target a) ms → All (λ m. is_marked is_take a m ≡ false) ms
   takes_none [] a by none takes = All-nil (λ (m : ℕ × Entry). is_marked is_take a m ≡ false)
   takes_none (m ∷ ms) a by none takes =
       All-cons (λ (m : ℕ × Entry). is_marked is_take a m ≡ false) m ms
       (false_from_ne_true (is_marked is_take a m) (λ is.
-      let both = and_parts (is_take m.1.kind) (m.1.a == a) is in
       let actor : m.1.actor ≡ actor_number (actor_at mark.1.actor) =
-      All-head (λ (m : ℕ × Entry). is_take m.1.kind ≡ true → m.1.actor ≡ target m.1.a) m ms takes both.0
-      ∙ ap target (eqb-true m.1.a a both.1) ∙ by ∙ sym (actor_same mark.1.actor) in
+      All-head (λ (m : ℕ × Entry). is_marked is_take a m ≡ true → m.1.actor ≡ target a) m ms takes is ∙ by ∙ sym (actor_same mark.1.actor) in
       both_ways (is_by (actor_at mark.1.actor) m.1) (All-head (λ (m : ℕ × Entry). is_by (actor_at mark.1.actor) m.1 ≡ false) m ms none)
       (eq-eqb m.1.actor (actor_number (actor_at mark.1.actor)) actor)))
       (takes_none ms a by (All-tail (λ (m : ℕ × Entry). is_by (actor_at mark.1.actor) m.1 ≡ false) m ms none)
-      (All-tail (λ (m : ℕ × Entry). is_take m.1.kind ≡ true → m.1.actor ≡ target m.1.a) m ms takes))
+      (All-tail (λ (m : ℕ × Entry). is_marked is_take a m ≡ true → m.1.actor ≡ target a) m ms takes))
 
   look_no_more : is_look l.mark.1.kind ≡ true → shown_by (ring_at l.mark.1.a) gone l.mark.1.b ≤ count Send (ring_at l.mark.1.a) gone
   look_no_more is =
       let a : ℕ = l.mark.1.a in
-      let by : mark.1.actor ≡ target l.mark.1.a = sym same_actor ∙ of_last (λ (m : ℕ × Entry). is_look m.1.kind ≡ true → m.1.actor ≡ target m.1.a) run.looks is in
       let on : is_marked is_look l.mark.1.a l.mark ≡ true = and_from (is_look l.mark.1.kind) (l.mark.1.a == l.mark.1.a) is (eq-eqb l.mark.1.a l.mark.1.a refl) in
+      let ends = (run.rings l.mark.1.a).ends in
+      let by : mark.1.actor ≡ target l.mark.1.a =
+      sym same_actor ∙ of_last (λ (m : ℕ × Entry). is_marked is_look l.mark.1.a m ≡ true → m.1.actor ≡ target l.mark.1.a) ends.looks on in
       let most = (run.rings l.mark.1.a).at_most l.first l.second later l.mark mark all_marks on by in
       let no_take : is_marked is_take l.mark.1.a l.mark ≡ false = ap (λ b. b && (l.mark.1.a == l.mark.1.a)) (look_is_no_take l.mark.1.kind is) in
       let quiet : All (λ m. is_marked is_take l.mark.1.a m ≡ false) (l.mark ∷ l.second) =
       All-cons (λ (m : ℕ × Entry). is_marked is_take l.mark.1.a m ≡ false) l.mark l.second no_take
       (takes_none l.second l.mark.1.a (sym by) l.no_later
-      (All-tail (λ (m : ℕ × Entry). is_take m.1.kind ≡ true → m.1.actor ≡ target m.1.a) l.mark l.second
-      (all_later (λ (m : ℕ × Entry). is_take m.1.kind ≡ true → m.1.actor ≡ target m.1.a) l.first (l.mark ∷ l.second)
-      (among_first (λ (m : ℕ × Entry). is_take m.1.kind ≡ true → m.1.actor ≡ target m.1.a) run.takes)))) in
+      (All-tail (λ (m : ℕ × Entry). is_marked is_take l.mark.1.a m ≡ true → m.1.actor ≡ target l.mark.1.a) l.mark l.second
+      (all_later (λ (m : ℕ × Entry). is_marked is_take l.mark.1.a m ≡ true → m.1.actor ≡ target l.mark.1.a) l.first (l.mark ∷ l.second)
+      (among_first (λ (m : ℕ × Entry). is_marked is_take l.mark.1.a m ≡ true → m.1.actor ≡ target l.mark.1.a) ends.takes)))) in
       let same : takes_in l.mark.1.a (l.first ++ l.mark ∷ l.second) ≡ takes_in l.mark.1.a l.first =
       sym (length-filter (is_marked is_take l.mark.1.a) (l.first ++ l.mark ∷ l.second)) ∙ same_takes l.mark.1.a l.first (l.mark ∷ l.second) quiet
       ∙ length-filter (is_marked is_take l.mark.1.a) l.first in

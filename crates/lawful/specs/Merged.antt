@@ -4,7 +4,7 @@ use Rattle.step_law.specs.declared.actor.Actor.TheVariants.{Audio, Control}
 use Rattle.step_law.specs.declared.entry.Entry.{Entry}
 use Rattle.step_law.specs.Actor.{actor_number}
 use Rattle.step_law.specs.Ring.{ring_at}
-use Rattle.cable_trace.specs.Merged.{is_send, is_take, is_look, KeepsRing}
+use Rattle.cable_trace.specs.Merged.{KeepsRing}
 use Rattle.cable_trace.specs.MergedBeat.{is_beat, KeepsBeat}
 use Rattle.record_law.specs.declared.shape.Broken.TheVariants.{Look}
 use Rattle.record_law.specs.declared.shape.Shape.{Shape}
@@ -32,18 +32,14 @@ abbrev pub RingsKeepRules : Type 0
 RingsKeepRules = (s : Shape) (source target : ℕ → ℕ) (marks before after : List (ℕ × Entry)) (mark : ℕ × Entry) → KeepsRings s source target marks
     → marks ≡ before ++ mark ∷ after → KeepsRingRules s (history_of s (entries_in before)) mark.1
 
--- The rings and the beat keep their rules, and each has one actor at each end: its sender in the session, audio for the beat, alone sends on
--- it, and one actor alone looks at it and takes from it, control at the beat.
-pub record HaveOneActorAnEnd (s : Shape) (source target : ℕ → ℕ) (marks : List (ℕ × Entry)) : Type 0 where
+-- The rings and the beat keep their rules. On each ring sends its sender in the session; audio alone stores the beat, and control alone loads it.
+pub record KeepRules (s : Shape) (source target : ℕ → ℕ) (marks : List (ℕ × Entry)) : Type 0 where
   pub rings : KeepsRings s source target marks
-  pub beat : KeepsBeat s.blocks (actor_number Audio) (actor_number Control) marks
   pub senders : (ring : ℕ) → source ring ≡ actor_number (sender s (ring_at ring))
-  pub sends : All (λ mark. is_send mark.1.kind ≡ true → mark.1.actor ≡ source mark.1.a) marks
-  pub looks : All (λ mark. is_look mark.1.kind ≡ true → mark.1.actor ≡ target mark.1.a) marks
-  pub takes : All (λ mark. is_take mark.1.kind ≡ true → mark.1.actor ≡ target mark.1.a) marks
+  pub beat : KeepsBeat s.blocks (actor_number Audio) (actor_number Control) marks
   pub beats : All (λ mark. is_beat mark.1.kind ≡ true → mark.1.actor ≡ actor_number Control) marks
 
 -- Each look, at a ring or at the beat, then shows at least what its sender has gone on from, and at most what there is at the looker's next entry.
 abbrev pub LooksKeepRules : Type 0
-LooksKeepRules = (s : Shape) (source target : ℕ → ℕ) (marks before after : List (ℕ × Entry)) (mark : ℕ × Entry) → HaveOneActorAnEnd s source target marks
+LooksKeepRules = (s : Shape) (source target : ℕ → ℕ) (marks before after : List (ℕ × Entry)) (mark : ℕ × Entry) → KeepRules s source target marks
     → marks ≡ before ++ mark ∷ after → keeps s (history_of s (entries_in before)) mark.1 Look ≡ true
