@@ -34,14 +34,17 @@ ready : (rows : List Triple) (urids : List (List ℕ)) (properties : List Triple
     → list_all (λ property. is_some (flags_in rows property)) properties ≡ true → list_all (holds urids) (uris_of rows properties) ≡ true → AreReady rows urids properties
 unfolding is_property
 ready rows urids [] shaped flags held = tt
-ready rows urids (property ∷ properties) shaped flags held =
-    ((one-held urids (key_in property) (left _ _ (left _ _ own)) (left _ _ two), one-held urids (kind_in rows property) (right _ _ (left _ _ own)) (right _ _ two), left _ _ flags),
-    ready rows urids properties (right (is_property rows property) _ shaped) (right _ _ flags) (right _ _ parts))
+ready rows urids (property ∷ properties) shaped flags held = (
+  (one-held urids (key_in property) (left _ _ (left _ _ own)) (left _ _ two), one-held urids (kind_in rows property) (right _ _ (left _ _ own)) (right _ _ two), left _ _ flags),
+  ready rows urids properties (right (is_property rows property) _ shaped) (right _ _ flags) (right _ _ parts),
+)
   where
     own : ((is_some (key_in property) && is_some (kind_in rows property)) && (is_some (flags_term rows property) && is_some (bytes_term rows property))) ≡ true
     own = left _ _ shaped
+
     parts : (list_all (holds urids) (option_to_list (key_in property) ++ option_to_list (kind_in rows property)) && list_all (holds urids) (uris_of rows properties)) ≡ true
     parts = sym (list_all-append (holds urids) (option_to_list (key_in property) ++ option_to_list (kind_in rows property)) (uris_of rows properties)) ∙ held
+
     two : (list_all (holds urids) (option_to_list (key_in property)) && list_all (holds urids) (option_to_list (kind_in rows property))) ≡ true
     two = sym (list_all-append (holds urids) (option_to_list (key_in property)) (option_to_list (kind_in rows property))) ∙ left _ _ parts
 
@@ -56,11 +59,14 @@ readable : (rows : List Triple) (urids : List (List ℕ)) (states : List Term) �
     → list_all (has_few rows) states ≡ true → list_all (holds urids) (uris_for rows states) ≡ true → AreReadable rows urids states
 unfolding is_shaped has_flags has_few
 readable rows urids [] shaped flags few held = tt
-readable rows urids (state ∷ states) shaped flags few held =
-    ((ready rows urids (properties_in rows state) (left _ _ (right ((is_some (name_in rows state) && is_some (uri_in rows state)) && is_some (node_in rows state)) _ (left (is_shaped rows state) _ shaped)))
-    (left _ _ flags) (left _ _ parts),
-    room rows (properties_in rows state) (left _ _ few)),
-    readable rows urids states (right (is_shaped rows state) _ shaped) (right (has_flags rows state) _ flags) (right (has_few rows state) _ few) (right _ _ parts))
+readable rows urids (state ∷ states) shaped flags few held = (
+  (
+    ready rows urids (properties_in rows state) (left _ _ (right ((is_some (name_in rows state) && is_some (uri_in rows state)) && is_some (node_in rows state)) _ (left (is_shaped rows state) _ shaped)))
+        (left _ _ flags) (left _ _ parts),
+    room rows (properties_in rows state) (left _ _ few),
+  ),
+  readable rows urids states (right (is_shaped rows state) _ shaped) (right (has_flags rows state) _ flags) (right (has_few rows state) _ few) (right _ _ parts),
+)
   where
     parts : (list_all (holds urids) (uris_of rows (properties_in rows state)) && list_all (holds urids) (uris_for rows states)) ≡ true
     parts = sym (list_all-append (holds urids) (uris_of rows (properties_in rows state)) (uris_for rows states)) ∙ held

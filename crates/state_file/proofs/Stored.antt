@@ -51,13 +51,18 @@ stored-as rows urids property old new key kind flags status bytes mapped is-key 
   where
     is-prop : value_of kind flags bytes ≡ prop_of rows urids property
     is-prop = λ i. record { kind = is-kind i; flags = is-flags i; bytes = is-bytes i }
+
     same : with_property old.rows key (value_of kind flags bytes) ≡ with_property old.rows (key_number urids property) (prop_of rows urids property)
     same = λ i. with_property old.rows (is-key i) (is-prop i)
+
     has-room : fit (with_property old.rows key (value_of kind flags bytes)) ≡ true
     has-room = ap fit same ∙ room
+
     lawful : are_flags flags ≡ true
     lawful = ap are_flags is-flags ∙ flags-lawful rows property there
+
     success : status ≡ SUCCESS
     success = answered ∙ sym (status_done old key (value_of kind flags bytes) (ap (λ m. is_mapped m key) mapped ∙ has-key) (ap (λ m. is_mapped m kind) mapped ∙ has-kind) lawful has-room)
+
     left : new ≡ record old { rows = with_property old.rows key (value_of kind flags bytes) }
     left = done success
