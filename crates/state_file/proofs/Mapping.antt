@@ -1,8 +1,8 @@
 -- How far mapping has come.
-use Rattle.std.proofs.Common.{◌≡◌, ℕ, suc, ◌+◌, ◌<◌, ◌≤◌, ◌^◌, Bool, true, false, cond, List, [], ◌∷◌, ◌++◌, length, refl, sym, ap, subst, ◌∙◌, append_assoc, arith}
+use Rattle.std.proofs.Common.{◌≡◌, ℕ, suc, ◌<◌, ◌≤◌, ◌^◌, Bool, true, false, cond, List, [], ◌∷◌, ◌++◌, length, refl, sym, ap, subst, ◌∙◌, append_assoc, arith}
 use Rattle.std.specs.Prelude.{Result, Ok, Err, IfErr}
 use Rattle.std.specs.Result.{IsErrAnd}
-use Rattle.urid_map.specs.Numbers.{holds, with_uri, with_uris}
+use Rattle.urid_map.specs.Numbers.{holds, with_uris}
 use Rattle.urid_map.specs.declared.fault.UridFault.{UridFault}
 use Rattle.urid_map.specs.declared.fault.UridFault.TheVariants.{Full}
 use Rattle.state_file.specs.Ready.{IsStopped, AreMappedBefore}
@@ -33,10 +33,13 @@ stopped-later urids all these rest now new fault so stop =
   where
     cut : all ≡ (so.front ++ stop.front) ++ (stop.rest ++ rest)
     cut = so.cut ∙ (ap (λ l. so.front ++ (l ++ rest)) stop.cut ∙ (ap (λ l. so.front ++ l) (append_assoc stop.front stop.rest rest) ∙ sym (append_assoc so.front stop.front (stop.rest ++ rest))))
+
     mapped : new ≡ with_uris urids (so.front ++ stop.front)
     mapped = stop.mapped ∙ (ap (λ u. with_uris u stop.front) so.mapped ∙ sym (mapped-two urids so.front stop.front))
+
     whole : with_uris urids all ≡ with_uris (with_uris now these) rest
     whole = ap (with_uris urids) so.cut ∙ (mapped-two urids so.front (these ++ rest) ∙ (ap (λ u. with_uris u (these ++ rest)) (sym so.mapped) ∙ mapped-two now these rest))
+
     full : fault ≡ Full → 2 ^ 20 < length (with_uris urids all)
     full e =
         let here : 2 ^ 20 < length (with_uris now these) = stop.full e in
@@ -60,6 +63,7 @@ stopped-at urids new uri fault same full =
     grown : (b : Bool) → b ≡ false → length urids ≡ 2 ^ 20 → 2 ^ 20 < length (cond b urids (urids ++ uri ∷ []))
     grown true h few = cc
     grown false h few = let more : length (urids ++ uri ∷ []) ≡ suc (length urids) = longer-one urids uri in omega arith
+
     too-many : length urids ≡ 2 ^ 20 → holds urids uri ≡ false → 2 ^ 20 < length (with_uris urids (uri ∷ []))
     too-many few new = subst (λ u. 2 ^ 20 < length u) (sym (mapped-one urids uri)) (grown (holds urids uri) new few)
 

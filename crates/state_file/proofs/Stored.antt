@@ -1,11 +1,10 @@
 -- A property that is ready is stored.
-use Rattle.std.proofs.Common.{◌≡◌, ℕ, suc, ◌+◌, ◌≤◌, Bool, true, false, cond, List, [], length, Option, None, Some, is_some, unwrap_or, refl, sym, ap, subst, ◌∙◌, true≢false, arith, lt-ltb}
-use Rattle.std.specs.Prelude.{◌&&◌, nat_lt, nat_le, option_and_then, ℤ, pos, negsuc}
+use Rattle.std.proofs.Common.{◌≡◌, ℕ, suc, ◌≤◌, Bool, true, false, cond, List, [], length, Option, None, Some, is_some, unwrap_or, refl, sym, ap, ◌∙◌, true≢false, arith, lt-ltb}
+use Rattle.std.specs.Prelude.{◌&&◌, nat_le, option_and_then, ℤ, pos, negsuc}
 use Rattle.std.proofs.lemmas.Bool.{le-leb}
 use Rattle.triple_store.specs.declared.term.Triple.{Triple}
 use Rattle.state_store.specs.Properties.{with_property, is_mapped, are_flags, fit}
 use Rattle.state_store.specs.Shelf.{Shelved, value_of, status_of}
-use Rattle.state_store.specs.declared.prop.Prop.{Prop}
 use Rattle.state_store.specs.declared.status.TheConstants.{SUCCESS}
 use Rattle.state_store.proofs.Storing.{status_done}
 use Rattle.urid_map.specs.Numbers.{number_of}
@@ -51,13 +50,18 @@ stored-as rows urids property old new key kind flags status bytes mapped is-key 
   where
     is-prop : value_of kind flags bytes ≡ prop_of rows urids property
     is-prop = λ i. record { kind = is-kind i; flags = is-flags i; bytes = is-bytes i }
+
     same : with_property old.rows key (value_of kind flags bytes) ≡ with_property old.rows (key_number urids property) (prop_of rows urids property)
     same = λ i. with_property old.rows (is-key i) (is-prop i)
+
     has-room : fit (with_property old.rows key (value_of kind flags bytes)) ≡ true
     has-room = ap fit same ∙ room
+
     lawful : are_flags flags ≡ true
     lawful = ap are_flags is-flags ∙ flags-lawful rows property there
+
     success : status ≡ SUCCESS
     success = answered ∙ sym (status_done old key (value_of kind flags bytes) (ap (λ m. is_mapped m key) mapped ∙ has-key) (ap (λ m. is_mapped m kind) mapped ∙ has-kind) lawful has-room)
+
     left : new ≡ record old { rows = with_property old.rows key (value_of kind flags bytes) }
     left = done success

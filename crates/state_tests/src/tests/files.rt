@@ -90,7 +90,8 @@ fn numbers(alloc: Global, urids: &Urids) -> Result<[Option<u32>; 4], Fail> {
 #[test]
 fn maps_in_order(rt: HostRuntime) -> Result<(), Fail> {
     let mut urids = Urids::new(rt.alloc())?;
-    let states = "<#s> a fx:Saved ; fx:name \"s\" ; fx:plugin <urn:p> ; state:state [ <urn:z> <#good> ; <urn:a> <#empty> ] .";
+    let states =
+        "<#s> a fx:Saved ; fx:name \"s\" ; fx:plugin <urn:p> ; state:state [ <urn:z> <#good> ; <urn:a> <#empty> ] .";
     let saves = read_over(rt.alloc(), states, &mut urids)??;
     assert_eq!(rt; saves.len(), 1);
     assert!(rt; numbers(rt.alloc(), &urids)? == [Some(26), Some(27), Some(28), None]);
