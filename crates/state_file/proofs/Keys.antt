@@ -1,10 +1,8 @@
 -- Keys that are looked up one after another stand each once.
-use Rattle.std.proofs.Common.{◌≡◌, Bool, true, false, not, cond, List, [], ◌∷◌, ◌++◌, refl, sym, ap, subst, ◌∙◌}
+use Rattle.std.proofs.Common.{◌≡◌, Bool, true, false, not, List, [], ◌∷◌, ◌++◌, refl, ap, ◌∙◌}
 use Rattle.std.specs.Prelude.{◌&&◌, ◌||◌}
 use Rattle.std.specs.List.{list_any}
-use Rattle.indexmap.specs.IndexSet.{insert_key}
-use Rattle.triple_store.proofs.SameTerm.{same_term-swapped, eq_of_terms, copy_of_term}
-use Rattle.triple_store.specs.contracts.term.TermPartialEq.TheImpl.{eq-value as term_eq}
+use Rattle.triple_store.proofs.SameTerm.{same_term-swapped}
 use Rattle.triple_store.specs.Triples.{same_term}
 use Rattle.triple_store.specs.declared.term.Term.{Term}
 use Rattle.state_file.specs.Rules.{each_once}
@@ -63,17 +61,3 @@ none-of-none (key ∷ keys) = none-of-none keys
 
 pub new_from_none : (keys : List Term) → are_new [] keys ≡ each_once keys
 new_from_none keys = new-once [] keys ∙ ap (λ b. b && each_once keys) (none-of-none keys)
-
--- what an insert answers
-pub is-new : (keys : List Term) (key copy : Term) (new : Bool) → copy ≡ key → new ≡ not (list_any (term_eq.it copy) keys) → new ≡ not (list_any (same_term key) keys)
-is-new keys key copy new same answered =
-    answered ∙ (ap (λ (eq : Term → Term → Bool). not (list_any (eq copy) keys)) eq_of_terms ∙ ap (λ k. not (list_any (same_term k) keys)) same)
-
--- and leaves
-pub is-added : (keys after : List Term) (key copy : Term) (new : Bool) → copy ≡ key → new ≡ not (list_any (term_eq.it copy) keys) → after ≡ insert_key term_eq.it keys copy → new ≡ true
-    → after ≡ keys ++ key ∷ []
-is-added keys after key copy new same answered left here = by (list_any (term_eq.it copy) keys) refl answered
-  where
-    by : (b : Bool) → list_any (term_eq.it copy) keys ≡ b → new ≡ not b → after ≡ keys ++ key ∷ []
-    by true found none = cc
-    by false missing some = left ∙ (ap (λ b. cond b keys (keys ++ copy ∷ [])) missing ∙ ap (λ k. keys ++ k ∷ []) same)

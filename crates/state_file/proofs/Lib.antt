@@ -1,12 +1,10 @@
 pub mod Joined
 pub mod StatesText
 pub mod Rows
-pub mod Encoded
 pub mod Keys
 pub mod Held
 pub mod Mapping
 pub mod Readiness
 pub mod Room
-pub mod Counting
 pub mod Stored
 pub mod Causes

@@ -1,8 +1,8 @@
 -- How far mapping has come.
-use Rattle.std.proofs.Common.{◌≡◌, ℕ, suc, ◌+◌, ◌<◌, ◌≤◌, ◌^◌, Bool, true, false, cond, List, [], ◌∷◌, ◌++◌, length, refl, sym, ap, subst, ◌∙◌, append_assoc, arith}
+use Rattle.std.proofs.Common.{◌≡◌, ℕ, suc, ◌<◌, ◌≤◌, ◌^◌, Bool, true, false, cond, List, [], ◌∷◌, ◌++◌, length, refl, sym, ap, subst, ◌∙◌, append_assoc, arith}
 use Rattle.std.specs.Prelude.{Result, Ok, Err, IfErr}
 use Rattle.std.specs.Result.{IsErrAnd}
-use Rattle.urid_map.specs.Numbers.{holds, with_uri, with_uris}
+use Rattle.urid_map.specs.Numbers.{holds, with_uris}
 use Rattle.urid_map.specs.declared.fault.UridFault.{UridFault}
 use Rattle.urid_map.specs.declared.fault.UridFault.TheVariants.{Full}
 use Rattle.state_file.specs.Ready.{IsStopped, AreMappedBefore}

@@ -1,5 +1,5 @@
 -- States that keep the rules, and whose URIs are mapped, can be read.
-use Rattle.std.proofs.Common.{◌≡◌, ℕ, ◌+◌, ◌≤◌, Bool, true, false, not, cond, List, [], ◌∷◌, ◌++◌, length, Option, None, Some, is_some, refl, sym, ap, subst, ◌∙◌, true≢false, arith}
+use Rattle.std.proofs.Common.{◌≡◌, ℕ, ◌≤◌, Bool, true, false, not, cond, List, [], ◌∷◌, ◌++◌, length, Option, None, Some, is_some, refl, sym, subst, ◌∙◌, true≢false, arith}
 use Rattle.std.specs.Prelude.{◌&&◌, nat_le, option_to_list}
 use Rattle.std.specs.List.{list_all}
 use Rattle.std.proofs.lemmas.Bool.{leb-true}
@@ -9,8 +9,8 @@ use Rattle.triple_store.specs.declared.term.Triple.{Triple}
 use Rattle.state_store.specs.declared.status.TheConstants.{MOST_PROPERTIES, MOST_BYTES}
 use Rattle.urid_map.specs.Numbers.{holds, with_uris}
 use Rattle.state_file.specs.States.{states_in, properties_in, key_in, kind_in, flags_in, flags_term, bytes_term, name_in, uri_in, node_in}
-use Rattle.state_file.specs.Rules.{is_property, are_properties, each_once, is_shaped, has_flags, has_bytes, has_few, are_few, size_of, first_broken, uris_of, uris_for, uris_in}
-use Rattle.state_file.specs.Ready.{IsHeld, IsReady, AreReady, HaveRoom, AreReadable}
+use Rattle.state_file.specs.Rules.{is_property, is_shaped, has_flags, has_bytes, has_few, are_few, size_of, first_broken, uris_of, uris_for, uris_in}
+use Rattle.state_file.specs.Ready.{IsHeld, AreReady, HaveRoom, AreReadable}
 use Rattle.state_file.specs.declared.fault.StateFault.{StateFault}
 use Rattle.state_file.specs.declared.fault.StateFault.TheVariants.{Shape, Flags, Bytes, Size}
 use Rattle.state_file.proofs.Held.{all-mapped}

@@ -1,11 +1,10 @@
 -- A property that is ready is stored.
-use Rattle.std.proofs.Common.{◌≡◌, ℕ, suc, ◌+◌, ◌≤◌, Bool, true, false, cond, List, [], length, Option, None, Some, is_some, unwrap_or, refl, sym, ap, subst, ◌∙◌, true≢false, arith, lt-ltb}
-use Rattle.std.specs.Prelude.{◌&&◌, nat_lt, nat_le, option_and_then, ℤ, pos, negsuc}
+use Rattle.std.proofs.Common.{◌≡◌, ℕ, suc, ◌≤◌, Bool, true, false, cond, List, [], length, Option, None, Some, is_some, unwrap_or, refl, sym, ap, ◌∙◌, true≢false, arith, lt-ltb}
+use Rattle.std.specs.Prelude.{◌&&◌, nat_le, option_and_then, ℤ, pos, negsuc}
 use Rattle.std.proofs.lemmas.Bool.{le-leb}
 use Rattle.triple_store.specs.declared.term.Triple.{Triple}
 use Rattle.state_store.specs.Properties.{with_property, is_mapped, are_flags, fit}
 use Rattle.state_store.specs.Shelf.{Shelved, value_of, status_of}
-use Rattle.state_store.specs.declared.prop.Prop.{Prop}
 use Rattle.state_store.specs.declared.status.TheConstants.{SUCCESS}
 use Rattle.state_store.proofs.Storing.{status_done}
 use Rattle.urid_map.specs.Numbers.{number_of}

@@ -1,5 +1,5 @@
 -- What the triples say of a subject: the objects of its rows, in order (RDF 1.1, section 3).
-use Rattle.std.specs.Prelude.{ℕ, Bool, true, false, ◌||◌, List, [], ◌∷◌, map, filter, Option, None, Some, is_some}
+use Rattle.std.specs.Prelude.{ℕ, Bool, true, false, List, [], ◌∷◌, map, filter, Option, None, Some, is_some}
 use Rattle.triple_store.specs.Triples.{same_term, agrees}
 use Rattle.triple_store.specs.declared.term.Term.{Term}
 use Rattle.triple_store.specs.declared.term.Term.TheVariants.{Iri, Blank, Literal}

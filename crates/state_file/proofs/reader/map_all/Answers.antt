@@ -1,6 +1,5 @@
-use Rattle.std.proofs.Common.{◌≡◌, ◌∷◌, ◌++◌, Some, sym, subst, ◌∙◌}
-use Rattle.std.specs.Prelude.{option_to_list}
-use Rattle.state_file.specs.States.{about, states_in, properties_in, key_in, kind_in}
+use Rattle.std.proofs.Common.{sym, subst, ◌∙◌}
+use Rattle.state_file.specs.States.{states_in, properties_in}
 use Rattle.state_file.specs.Rules.{uris_of, uris_for, uris_in}
 use Rattle.state_file.specs.Ready.{AreMappedBefore, IsStopped}
 use Rattle.state_file.proofs.Mapping.{before-all, before-rest, stopped-later, passed-on}

@@ -1,7 +1,7 @@
-use Rattle.std.proofs.Common.{◌≡◌, ◌∷◌, ◌++◌, Some, sym, subst, ◌∙◌}
+use Rattle.std.proofs.Common.{◌++◌, Some, sym, subst, ◌∙◌}
 use Rattle.std.specs.Prelude.{option_to_list}
-use Rattle.state_file.specs.States.{about, states_in, properties_in, key_in, kind_in}
-use Rattle.state_file.specs.Rules.{uris_of, uris_for}
+use Rattle.state_file.specs.States.{about, key_in, kind_in}
+use Rattle.state_file.specs.Rules.{uris_of}
 use Rattle.state_file.specs.Ready.{AreMappedBefore, IsStopped}
 use Rattle.state_file.proofs.Mapping.{before-all, before-rest, stopped-later, passed-on}
 use Rattle.state_file.proofs.reader.map_node.Goals as goal

@@ -1,4 +1,4 @@
-use Rattle.std.proofs.Common.{◌≡◌, ◌∷◌, sym, ap, subst, ◌∙◌}
+use Rattle.std.proofs.Common.{sym, ap, subst, ◌∙◌}
 use Rattle.state_file.specs.Reading.{stored}
 use Rattle.state_file.specs.Ready.{AreReady, HaveRoom}
 use Rattle.state_file.proofs.Room.{room-here, room-next}

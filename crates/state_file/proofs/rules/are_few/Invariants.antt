@@ -1,4 +1,4 @@
-use Rattle.std.proofs.Common.{◌≡◌, ◌≤◌, length}
+use Rattle.std.proofs.Common.{◌≡◌, length}
 use Rattle.std.specs.Prelude.{Some, nat_le, ◌&&◌}
 use Rattle.state_file.specs.Rules.{size_of, are_few}
 use Rattle.state_file.specs.States.{about}
