@@ -17,6 +17,18 @@ impl Model for Parcel {
     ghost view = { λ parcel. parcel.body.items };
 }
 
+impl Default for Parcel {
+    ghost use Rattle.std.specs.Prelude.{◌≡◌, []};
+
+    ghost is_default = { λ parcel. parcel ≡ [] };
+
+    fn default() -> Self {
+        Parcel {
+            body: ArrayVec::new(),
+        }
+    }
+}
+
 impl Parcel {
     /// A message with this body, unless it is too long.
     pub fn new(body: &[u8]) -> Option<Self>
