@@ -1,4 +1,4 @@
-//! Tests of the stock codes.
+//! Tests of the crates of plug-ins and of their calls, over what they export.
 #![tactic(auto)]
 
 #[cfg(test)]
