@@ -1,5 +1,6 @@
 /* A ring of messages of 264 bytes between two threads, as plain C has it: `cable WAY ROUNDS`, as message_count does it. All atomic steps
-   are sequentially consistent; each send, look and take draws a number from one counter, as there. `plain` draws none. */
+   are sequentially consistent; each send, look and take draws a number from one counter, and the counter, the head and the tail have a line of
+   64 bytes each, as there. `plain` draws none. */
 #include <pthread.h>
 #include <sched.h>
 #include <stdatomic.h>
@@ -13,8 +14,10 @@ enum { CELLS = 64 };
 struct message { uint64_t words[33]; };
 
 static struct {
-    _Atomic uint64_t counter, head, tail;
-    struct message cells[CELLS];
+    _Alignas(64) _Atomic uint64_t counter;
+    _Alignas(64) _Atomic uint64_t head;
+    _Alignas(64) _Atomic uint64_t tail;
+    _Alignas(64) struct message cells[CELLS];
 } *ring;
 
 static int draws = 1;
@@ -43,7 +46,7 @@ static int take_once(uint64_t *taken, uint64_t shown, uint64_t *sum) {
     struct message message = ring->cells[*taken % CELLS];
     atomic_store(&ring->head, ++*taken);
     draw();
-    *sum += message.words[32];
+    for (int i = 0; i < 33; i++) *sum += message.words[i];
     return 1;
 }
 

@@ -90,8 +90,8 @@ module _ {M : Type 0} (plan : Plan) where
     counter : get_or drawn_words 0 0 ≡ next + 1
     counter = get_or-set_same s.words 0 ((next + 1) % 18446744073709551616) 0 some_words ∙ mod-eq_of_lt (omega (arith, low))
 
-    beat_word : get_or drawn_words 1 0 ≡ get_or s.words 1 0
-    beat_word = get_or-set_other s.words 0 1 ((next + 1) % 18446744073709551616) 0 (λ e. omega arith)
+    beat_word : get_or drawn_words 8 0 ≡ get_or s.words 8 0
+    beat_word = get_or-set_other s.words 0 8 ((next + 1) % 18446744073709551616) 0 (λ e. omega arith)
 
     ends : (ring : ℕ) → (get_or drawn_words (head_word ring) 0 ≡ get_or s.words (head_word ring) 0) × (get_or drawn_words (tail_word ring) 0 ≡ get_or s.words (tail_word ring) 0)
     ends ring = (get_or-set_other s.words 0 (head_word ring) ((next + 1) % 18446744073709551616) 0 (λ e. omega arith), get_or-set_other s.words 0 (tail_word ring) ((next + 1) % 18446744073709551616) 0 (λ e. omega arith))

@@ -173,7 +173,7 @@ module _ {M : Type 0} (plan : Plan) (slots id ring : ℕ) where
         let tail-now : get_or words (tail_word ring) 0 ≡ value = get_or-set_same s.words (tail_word ring) value 0 inside in
         let head-now : get_or words (head_word ring) 0 ≡ get_or s.words (head_word ring) 0 = get_or-set_other s.words (tail_word ring) (head_word ring) value 0 (λ e. omega arith) in
         ring_step plan s h id a at new (own_event plan.rings a ticket old (Sent ring seen message) (h.own a) ends) words homes same (length-set s.words (tail_word ring) value) (length-set s.homes cell (some (Some message)))
-        (get_or-set_other s.words (tail_word ring) 0 value 0 (λ e. omega arith)) ring (get_or-set_other s.words (tail_word ring) 1 value 0 (λ e. omega arith))
+        (get_or-set_other s.words (tail_word ring) 0 value 0 (λ e. omega arith)) ring (get_or-set_other s.words (tail_word ring) 8 value 0 (λ e. omega arith))
         (λ o ne. (get_or-set_other s.words (tail_word ring) (head_word o) value 0 (λ e. omega arith), get_or-set_other s.words (tail_word ring) (tail_word o) value 0 (λ e. ne (omega arith))))
         (λ o k ne. set_else s.homes cell (slot plan.cells o k) (some (Some message)) (slots_apart plan.cells o ring k (length (sent ring old)) h.limits.some_cell ne))
         (event_off_beat ticket old (Sent ring seen message) refl refl)
@@ -344,7 +344,7 @@ module _ {M : Type 0} (plan : Plan) (slots id ring : ℕ) where
         let head-now : get_or words (head_word ring) 0 ≡ value = get_or-set_same s.words (head_word ring) value 0 inside in
         let tail-now : get_or words (tail_word ring) 0 ≡ get_or s.words (tail_word ring) 0 = get_or-set_other s.words (head_word ring) (tail_word ring) value 0 (λ e. omega arith) in
         ring_step plan s h id a at new (h.own a) words homes same (length-set s.words (head_word ring) value) (length-set s.homes cell (some None))
-        (get_or-set_other s.words (head_word ring) 0 value 0 (λ e. omega arith)) ring (get_or-set_other s.words (head_word ring) 1 value 0 (λ e. omega arith))
+        (get_or-set_other s.words (head_word ring) 0 value 0 (λ e. omega arith)) ring (get_or-set_other s.words (head_word ring) 8 value 0 (λ e. omega arith))
         (λ o ne. (get_or-set_other s.words (head_word ring) (head_word o) value 0 (λ e. ne (omega arith)), get_or-set_other s.words (head_word ring) (tail_word o) value 0 (λ e. omega arith)))
         (λ o k ne. set_else s.homes cell (slot plan.cells o k) (some None) (slots_apart plan.cells o ring k (length (moved ring old)) h.limits.some_cell ne))
         (pending_off_beat old (Took ring message))

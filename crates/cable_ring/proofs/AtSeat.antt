@@ -53,10 +53,10 @@ module _ {M : Type 0} (plan : Plan) (slots id : ℕ) (me : Seated M) (acting : A
 
   -- the beat
   pub store_beat_at : (ticket number : ℕ) → me ≡ (Actor acting, []) → MayStoreBeat plan slots id ticket number acting
-      → Allows (IsCable plan) slots id me 1 (λ _. number) (λ _. stored_beat (step slots 1 number 0 none) me number)
-  store_beat_at ticket number e pre = subst (λ (m : Seated M). Allows (IsCable plan) slots id m 1 (λ _. number) (λ _. stored_beat (step slots 1 number 0 none) m number)) (sym e)
+      → Allows (IsCable plan) slots id me 8 (λ _. number) (λ _. stored_beat (step slots 8 number 0 none) me number)
+  store_beat_at ticket number e pre = subst (λ (m : Seated M). Allows (IsCable plan) slots id m 8 (λ _. number) (λ _. stored_beat (step slots 8 number 0 none) m number)) (sym e)
       (may_store_beat plan slots id ticket number acting [] pre)
 
   pub see_beat_at : (ticket : ℕ) → me ≡ (Actor acting, []) → MaySeeBeat plan slots id ticket acting
-      → Allows (IsCable plan) slots id me 1 (λ n. n) (saw_beat (step slots 1 0 0 none) me)
-  see_beat_at ticket e pre = subst (λ (m : Seated M). Allows (IsCable plan) slots id m 1 (λ n. n) (saw_beat (step slots 1 0 0 none) m)) (sym e) (may_see_beat plan slots id ticket acting [] pre)
+      → Allows (IsCable plan) slots id me 8 (λ n. n) (saw_beat (step slots 8 0 0 none) me)
+  see_beat_at ticket e pre = subst (λ (m : Seated M). Allows (IsCable plan) slots id m 8 (λ n. n) (saw_beat (step slots 8 0 0 none) m)) (sym e) (may_see_beat plan slots id ticket acting [] pre)

@@ -81,7 +81,7 @@ module _ {M : Type 0} (plan : Plan) (s : State (Option M) (View M)) (h : IsCable
           go (yes e) = ap (λ i. drawn (put h.traces a new i)) e ∙ ap drawn (put_here h.traces a new) ∙ same ∙ ap (λ i. drawn (h.traces i)) (sym e)
           go (no ne) = ap drawn (put_else h.traces a new k ne)
 
-      pub ring_step : (ring : ℕ) → get_or words 1 0 ≡ get_or s.words 1 0
+      pub ring_step : (ring : ℕ) → get_or words 8 0 ≡ get_or s.words 8 0
           → ((other : ℕ) → other ≢ ring → (get_or words (head_word other) 0 ≡ get_or s.words (head_word other) 0) × (get_or words (tail_word other) 0 ≡ get_or s.words (tail_word other) 0))
           → ((other k : ℕ) → other ≢ ring → get_elem? homes (slot plan.cells other k) ≡ get_elem? s.homes (slot plan.cells other k))
           → IsOffBeat (h.traces a) new → ((other : ℕ) → other ≢ ring → IsAside other (h.traces a) new)
@@ -98,7 +98,7 @@ module _ {M : Type 0} (plan : Plan) (s : State (Option M) (View M)) (h : IsCable
         tickets = subst (λ (n : ℕ). AreTickets plan.first plan.actors n (λ k. drawn (put h.traces a new k))) (sym counter)
             (tickets_same plan.first plan.actors (get_or s.words 0 0) (λ k. drawn (h.traces k)) (λ k. drawn (put h.traces a new k)) drawn_as h.tickets);
         rings = λ q spec is. go q spec is (ℕ_discrete q ring);
-        beat = subst (λ (n : ℕ). IsBeat n (put h.traces a new 0) (put h.traces a new 1)) (sym beat_word) (beat_aside (get_or s.words 1 0) h.traces a new off same h.beat);
+        beat = subst (λ (n : ℕ). IsBeat n (put h.traces a new 0) (put h.traces a new 1)) (sym beat_word) (beat_aside (get_or s.words 8 0) h.traces a new off same h.beat);
       }
         where
           go : (q : ℕ) (spec : RingSpec) → get_elem? plan.rings q ≡ some spec → Dec (q ≡ ring)
@@ -115,7 +115,7 @@ module _ {M : Type 0} (plan : Plan) (s : State (Option M) (View M)) (h : IsCable
       -- a step at the beat
       pub beat_step : ((ring : ℕ) → IsAside ring (h.traces a) new)
           → ((ring : ℕ) → (get_or words (head_word ring) 0 ≡ get_or s.words (head_word ring) 0) × (get_or words (tail_word ring) 0 ≡ get_or s.words (tail_word ring) 0)) → homes ≡ s.homes
-          → IsBeat (get_or words 1 0) (put h.traces a new 0) (put h.traces a new 1) → IsCable plan record { words = words; homes = homes; views = set s.views id (Is new) }
+          → IsBeat (get_or words 8 0) (put h.traces a new 0) (put h.traces a new 1) → IsCable plan record { words = words; homes = homes; views = set s.views id (Is new) }
       beat_step aside ends still beat = record {
         traces = put h.traces a new;
         limits = h.limits;
@@ -136,7 +136,7 @@ module _ {M : Type 0} (plan : Plan) (s : State (Option M) (View M)) (h : IsCable
 
     -- a step that draws a ticket
     module _ (new : Trace M) (owns : DidOwn plan.rings a new) (words : List ℕ) (more : drawn new ≡ drawn (h.traces a) ++ get_or s.words 0 0 ∷ []) (few : length (drawn (h.traces a)) < 2 ^ 56)
-        (wide : length words ≡ length s.words) (counter : get_or words 0 0 ≡ get_or s.words 0 0 + 1) (beat_word : get_or words 1 0 ≡ get_or s.words 1 0)
+        (wide : length words ≡ length s.words) (counter : get_or words 0 0 ≡ get_or s.words 0 0 + 1) (beat_word : get_or words 8 0 ≡ get_or s.words 8 0)
         (ends : (ring : ℕ) → (get_or words (head_word ring) 0 ≡ get_or s.words (head_word ring) 0) × (get_or words (tail_word ring) 0 ≡ get_or s.words (tail_word ring) 0))
         (off : IsOffBeat (h.traces a) new) where
       pub all_above : (k : ℕ) → IsAbove (get_or s.words 0 0) (h.traces k)
@@ -162,7 +162,7 @@ module _ {M : Type 0} (plan : Plan) (s : State (Option M) (View M)) (h : IsCable
             subst (λ (n : ℕ). IsRing plan.cells q n (get_or words (tail_word q) 0) s.homes (put h.traces a new spec.from) (put h.traces a new spec.to)) (sym ends'.0)
             (subst (λ (n : ℕ). IsRing plan.cells q (get_or s.words (head_word q) 0) n s.homes (put h.traces a new spec.from) (put h.traces a new spec.to)) (sym ends'.1) (rings q spec is));
         beat = subst (λ (n : ℕ). IsBeat n (put h.traces a new 0) (put h.traces a new 1)) (sym beat_word)
-            (beat_draws (get_or s.words 1 0) h.traces a new off (get_or s.words 0 0) more
+            (beat_draws (get_or s.words 8 0) h.traces a new off (get_or s.words 0 0) more
             (h.beat, above_stores (get_or s.words 0 0) (h.traces 0) (all_above 0), above_loads (get_or s.words 0 0) (h.traces 1) (all_above 1)));
       }
 

@@ -19,8 +19,6 @@ module _ {M : Type 0} where
   cell_in [] = None
   cell_in (cell ∷ cells) = cell.1
 
-  pub vacant_cell : (cells : List (ℕ × Option M)) (place at : ℕ) (found : Option M) (message : M) → cells ≡ (place, None) ∷ [] → cells ≡ (at, found) ∷ rest cells → found ≡ Some message → ⊥
-  vacant_cell cells place at found message is was e = let none-is : None ≡ found = ap cell_in (sym is ∙ was) in let both : None ≡ Some message = none-is ∙ e in cc
 
   pub filled_cell : (cells : List (ℕ × Option M)) (place at : ℕ) (found : Option M) (message : M) → cells ≡ (place, Some message) ∷ [] → cells ≡ (at, found) ∷ rest cells → found ≡ Some message
   filled_cell cells place at found message is was = sym (ap cell_in (sym is ∙ was))

@@ -57,7 +57,7 @@ abbrev vacant_cells : (M : Type 0) → ℕ → List (maybe.Option (Option M))
 vacant_cells M n = map some (replicate n None)
 
 -- a table with all words 0 but the counter, and all cells empty
-pub cable_begins : {M : Type 0} (plan : Plan) (words : List ℕ) (cells : ℕ) → IsPlan plan → length words ≡ 2 * length plan.rings + 2 → cells ≡ length plan.rings * plan.cells
+pub cable_begins : {M : Type 0} (plan : Plan) (words : List ℕ) (cells : ℕ) → IsPlan plan → length words ≡ 16 * length plan.rings + 16 → cells ≡ length plan.rings * plan.cells
     → get_or words 0 0 ≡ plan.first → ((i : ℕ) → 0 < i → i < length words → get_or words i 0 ≡ 0) → IsCable {M = M} plan (opening words (replicate cells None) (Desk plan 0 []))
 cable_begins {M} plan words cells limits wide deep first others = subst (λ (n : ℕ). IsCable {M = M} plan (opening words (replicate n None) (Desk plan 0 []))) (sym deep) (record {
   traces = λ actor. fresh;
@@ -70,16 +70,16 @@ cable_begins {M} plan words cells limits wide deep first others = subst (λ (n :
   rings = λ ring spec is. let lt = at-lt plan.rings ring spec is in
       subst (λ (n : ℕ). IsRing {M = M} plan.cells ring n (get_or words (tail_word ring) 0) (vacant_cells M (length plan.rings * plan.cells)) fresh fresh) (sym (others (head_word ring) (omega arith) (omega arith)))
       (subst (λ (n : ℕ). IsRing {M = M} plan.cells ring 0 n (vacant_cells M (length plan.rings * plan.cells)) fresh fresh) (sym (others (tail_word ring) (omega arith) (omega arith))) (ring_begins plan ring limits lt));
-  beat = subst (λ (n : ℕ). IsBeat {M = M} n fresh fresh) (sym (others 1 (omega arith) (omega arith))) (record { holds = beat_fresh; last = last_fresh });
+  beat = subst (λ (n : ℕ). IsBeat {M = M} n fresh fresh) (sym (others 8 (omega arith) (omega arith))) (record { holds = beat_fresh; last = last_fresh });
 })
 
-pub cable_begins_at : {M : Type 0} (plan : Plan) (words : List ℕ) (cells : ℕ) → IsPlan plan → words ≡ set (replicate (2 * length plan.rings + 2) 0) 0 plan.first
+pub cable_begins_at : {M : Type 0} (plan : Plan) (words : List ℕ) (cells : ℕ) → IsPlan plan → words ≡ set (replicate (16 * length plan.rings + 16) 0) 0 plan.first
     → cells ≡ length plan.rings * plan.cells → IsCable {M = M} plan (opening words (replicate cells None) (Desk plan 0 []))
 cable_begins_at {M} plan words cells limits is deep = subst (λ (ws : List ℕ). IsCable {M = M} plan (opening ws (replicate cells None) (Desk plan 0 []))) (sym is)
-    (cable_begins plan (set (replicate (2 * length plan.rings + 2) 0) 0 plan.first) cells limits (length-set (replicate (2 * length plan.rings + 2) 0) 0 plan.first ∙ length-replicate {A = ℕ} (2 * length plan.rings + 2) 0) deep
-    (get_or-set_same (replicate (2 * length plan.rings + 2) 0) 0 plan.first 0 (omega (arith, length-replicate {A = ℕ} (2 * length plan.rings + 2) 0)))
-    (λ i some-i lt. get_or-set_other (replicate (2 * length plan.rings + 2) 0) 0 i plan.first 0 (λ e. omega arith) ∙ get_or-replicate {A = ℕ} (2 * length plan.rings + 2) i 0 0
-    (omega (arith, length-set (replicate (2 * length plan.rings + 2) 0) 0 plan.first, length-replicate {A = ℕ} (2 * length plan.rings + 2) 0))))
+    (cable_begins plan (set (replicate (16 * length plan.rings + 16) 0) 0 plan.first) cells limits (length-set (replicate (16 * length plan.rings + 16) 0) 0 plan.first ∙ length-replicate {A = ℕ} (16 * length plan.rings + 16) 0) deep
+    (get_or-set_same (replicate (16 * length plan.rings + 16) 0) 0 plan.first 0 (omega (arith, length-replicate {A = ℕ} (16 * length plan.rings + 16) 0)))
+    (λ i some-i lt. get_or-set_other (replicate (16 * length plan.rings + 16) 0) 0 i plan.first 0 (λ e. omega arith) ∙ get_or-replicate {A = ℕ} (16 * length plan.rings + 16) i 0 0
+    (omega (arith, length-set (replicate (16 * length plan.rings + 16) 0) 0 plan.first, length-replicate {A = ℕ} (16 * length plan.rings + 16) 0))))
 
 -- the desk hands out a seat
 pub may_hand_out : {M : Type 0} (plan : Plan) (id n : ℕ) (view : View M) → view ≡ Desk plan n [] → n < plan.actors → Splits (IsCable plan) id view (handed_out view) (next_actor view)

@@ -13,7 +13,7 @@ plan_with first cells actors rings = record { first = first; cells = cells; acto
 
 -- a table has the words and the cells of a plan
 pub record IsTableOf (table : TableId) (plan : Plan) : Type 0 where
-  pub words : table.words ≡ 2 * length plan.rings + 2
+  pub words : table.words ≡ 16 * length plan.rings + 16
   pub slots : table.slots ≡ length plan.rings * plan.cells
 
 -- the token of an actor that has done nothing

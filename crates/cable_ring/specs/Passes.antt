@@ -61,7 +61,7 @@ module _ {M : Type 0} where
   -- the table has the words and the cells of the plan
   pub record IsSized (pass : PassView M) : Type 0 where
     pub limits : IsPlan pass.plan
-    pub words : pass.table.words ≡ 2 * length pass.plan.rings + 2
+    pub words : pass.table.words ≡ 16 * length pass.plan.rings + 16
     pub slots : pass.table.slots ≡ length pass.plan.rings * pass.plan.cells
 
   -- an actor's numbers of each ring are those of its trace

@@ -16,12 +16,13 @@ use Rattle.cable_ring.specs.Drawn.{AreTickets}
 use Rattle.cable_ring.specs.Cells.{putting, fetching, AreCells}
 use Rattle.cable_ring.specs.Ends.{DidOwn}
 
--- Word 0 is the counter of tickets and word 1 the beat. Then come the head and the tail of each ring: how many messages were taken, and how many sent.
+-- Word 0 is the counter of tickets and word 8 the beat. Then come the head and the tail of each ring: how many messages were taken, and how many
+-- sent. Each of them has a line of 64 bytes to itself, so that threads which write different ones don't wait for each other's line.
 abbrev pub head_word : ℕ → ℕ
-head_word ring = 2 * ring + 2
+head_word ring = 16 * ring + 16
 
 abbrev pub tail_word : ℕ → ℕ
-tail_word ring = 2 * ring + 3
+tail_word ring = 16 * ring + 24
 
 -- a cable has 1 to 64 cells in each ring, at most 16 actors, and a first ticket below 2^60
 pub record IsPlan (plan : Plan) : Type 0 where
@@ -47,11 +48,11 @@ pub record IsBeat {M : Type 0} (number : ℕ) (writer reader : Trace M) : Type 0
 pub record IsCable {M : Type 0} (plan : Plan) (s : State (Option M) (View M)) : Type 0 where
   pub traces : ℕ → Trace M
   pub limits : IsPlan plan
-  pub words : length s.words ≡ 2 * length plan.rings + 2
+  pub words : length s.words ≡ 16 * length plan.rings + 16
   pub slots : length s.homes ≡ length plan.rings * plan.cells
   pub seated : AreSeated plan traces s.views
   pub tickets : AreTickets plan.first plan.actors (slice_index s.words 0) (λ actor. drawn (traces actor))
   pub own : (actor : ℕ) → DidOwn plan.rings actor (traces actor)
   pub rings : (ring : ℕ) (spec : RingSpec) → get_elem? plan.rings ring ≡ some spec
       → IsRing plan.cells ring (slice_index s.words (head_word ring)) (slice_index s.words (tail_word ring)) s.homes (traces spec.from) (traces spec.to)
-  pub beat : IsBeat (slice_index s.words 1) (traces 0) (traces 1)
+  pub beat : IsBeat (slice_index s.words 8) (traces 0) (traces 1)

@@ -13,6 +13,7 @@ use crate::pass::Place;
 use crate::plays::{
     Draw, DrawForTake, Mark, SeeBeat, SeeCell, SeeHead, SeeTail, StoreBeat, StoreHead, StoreTail,
 };
+use std::mem;
 
 /// A ring was full: the message comes back, with the ticket of the refusal and how many messages were seen taken.
 #[derive(Drop)]
@@ -43,7 +44,7 @@ pub(crate) fn draw_on<M>(top: &Top<M>, place: &mut Place<M>) -> u64
 }
 
 // A send by an actor that has sent so many messages on the ring.
-pub(crate) fn send_on<M>(
+pub(crate) fn send_on<M: Drop>(
     top: &Top<M>,
     place: &mut Place<M>,
     cells: u64,
@@ -60,7 +61,7 @@ pub(crate) fn send_on<M>(
     ensures refused { IfErr result (λ full. IsNext full.ticket (pass_at place.old) × (full.message ≡ message) × (length (sent ring (trace_at (pass_at place.old))) ≡ full.seen + cells) × (pass_at place.new ≡ noted (pass_at place.old) full.ticket (Refused ring full.seen))) }
 {
     let ticket = top.fetch_add::<Draw>(place, 0, 1);
-    let seen = top.load::<SeeHead>(place, 2 * ring as usize + 2);
+    let seen = top.load::<SeeHead>(place, 16 * ring as usize + 16);
     let waiting = count - seen;
     if waiting == cells {
         return Err(Full {
@@ -70,12 +71,10 @@ pub(crate) fn send_on<M>(
         });
     }
     let slot = slot_of(cells, ring, count);
-    match top.exchange(place, slot, Some(message)) {
-        None => {}
-        Some(_) => unreachable!(),
-    }
+    // The cell was empty, so nothing is dropped: a test would load a line that the taker wrote last.
+    mem::drop(top.exchange(place, slot, Some(message)));
     let next = count + 1;
-    top.store::<StoreTail>(place, 2 * ring as usize + 3, next);
+    top.store::<StoreTail>(place, 16 * ring as usize + 24, next);
     Ok(ticket)
 }
 
@@ -91,7 +90,7 @@ pub(crate) fn look_on<M>(top: &Top<M>, place: &mut Place<M>, ring: u32) -> (u64,
     ensures within { (length (taken ring (trace_at (pass_at place.old))) ≤ result.0) × (result.0 ≤ length (taken ring (trace_at (pass_at place.old))) + (pass_at place.old).plan.cells) }
 {
     let ticket = top.fetch_add::<Draw>(place, 0, 1);
-    let tail = top.load::<SeeTail>(place, 2 * ring as usize + 3);
+    let tail = top.load::<SeeTail>(place, 16 * ring as usize + 24);
     (tail, ticket)
 }
 
@@ -113,11 +112,11 @@ pub(crate) fn take_on<M>(
     ensures message { get_elem? (shown ring (trace_at (pass_at place.old))) count ≡ some result.0 }
     ensures noted { pass_at place.new ≡ noted (pass_at place.old) result.1 (Taken ring result.0) }
 {
-    top.load::<SeeCell>(place, 2 * ring as usize + 2);
+    top.load::<SeeCell>(place, 16 * ring as usize + 16);
     let slot = slot_of(cells, ring, count);
     let message = top.exchange(place, slot, None).unwrap();
     let next = count + 1;
-    top.store::<StoreHead>(place, 2 * ring as usize + 2, next);
+    top.store::<StoreHead>(place, 16 * ring as usize + 16, next);
     let ticket = top.fetch_add::<DrawForTake>(place, 0, 1);
     (message, ticket)
 }
@@ -133,7 +132,7 @@ pub(crate) fn beat_on<M>(top: &Top<M>, place: &mut Place<M>, number: u64) -> u64
     ensures noted { pass_at place.new ≡ noted (pass_at place.old) result (Stored number) }
 {
     let ticket = top.fetch_add::<Draw>(place, 0, 1);
-    top.store::<StoreBeat>(place, 1, number);
+    top.store::<StoreBeat>(place, 8, number);
     ticket
 }
 
@@ -147,6 +146,6 @@ pub(crate) fn look_beat_on<M>(top: &Top<M>, place: &mut Place<M>) -> (u64, u64)
     ensures noted { pass_at place.new ≡ noted (pass_at place.old) result.1 (Loaded result.0) }
 {
     let ticket = top.fetch_add::<Draw>(place, 0, 1);
-    let number = top.load::<SeeBeat>(place, 1);
+    let number = top.load::<SeeBeat>(place, 8);
     (number, ticket)
 }

@@ -112,7 +112,7 @@ fn empty_all<M: Drop>(
     rows: &mut Vec<Vec<M>>,
 )
     requires cells { (0 < cells) × (cells ≤ 64) × (rings ≡ length rows.old.items) }
-    requires words { IsFull closed.old.words × (slots_len closed.old.words ≡ 2 * rings + 2) }
+    requires words { IsFull closed.old.words × (slots_len closed.old.words ≡ 16 * rings + 16) }
     requires slots { IsFull closed.old.slots × (slots_len closed.old.slots ≡ rings * cells) }
     requires room { All (λ row. (row.items ≡ []) × (cells ≤ vec_capacity row)) rows.old.items }
     ensures count { length rows.new.items ≡ rings }
@@ -121,7 +121,7 @@ fn empty_all<M: Drop>(
 {
     for ring in 0..rings {
         let at = ring as usize;
-        let head = closed.word(2 * at + 2);
+        let head = closed.word(16 * at + 16);
         empty_ring(closed, cells, ring, head, &mut rows[at]);
     }
 }

@@ -63,7 +63,7 @@ impl<M: Drop> Cable<M> {
         ensures plan { IfOk result (λ made. plan_at made.0 ≡ plan_with first cells actors rings.now) }
     {
         let layout = Layout::new(alloc, first, cells, rings, actors)?;
-        let mut words = Vec::from_elem(alloc, 0u64, 2 * rings.len() + 2)?;
+        let mut words = Vec::from_elem(alloc, 0u64, 16 * rings.len() + 16)?;
         words[0] = first;
         let cell_count = rings.len() * cells as usize;
         let (table, mut desk) = Table::vacant(alloc, words.as_slice(), cell_count, &layout)?;

@@ -1,6 +1,6 @@
 //! Passes messages of 264 bytes through a ring: `message_count WAY ROUNDS`, a thousand messages a round, so that a benchmark can time it.
-//! WAY is `threads`, from one thread to another, or `turns`, each message sent and taken in turn by one thread. It ends with the sum of what
-//! was taken, so that nothing of it can be left out.
+//! WAY is `threads`, from one thread to another, or `turns`, each message sent and taken in turn by one thread. It ends with the sum of all
+//! words that were taken, so that no part of a message can be left out.
 #![tactic(auto)]
 
 ghost use Rattle.std.specs.Prelude.{◌≡◌, ◌<◌, IfOk};
@@ -30,8 +30,12 @@ impl Message {
         }
     }
 
-    fn last(&self) -> u64 {
-        self.words[32]
+    fn sum(&self) -> u64 {
+        let mut sum = 0u64;
+        for word in &self.words {
+            sum = sum.wrapping_add(*word);
+        }
+        sum
     }
 }
 
@@ -89,7 +93,7 @@ fn take_once(cable: &Cable<Message>, pass: &mut Pass<Message>) -> Option<u64>
         return None;
     }
     let (message, _) = cable.take(pass, 0)?;
-    Some(message.last())
+    Some(message.sum())
 }
 
 fn in_turns(

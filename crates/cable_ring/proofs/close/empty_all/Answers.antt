@@ -26,7 +26,7 @@ loop-ring-preserved g c =
     let row : Vec g.row.M.Denot Global = c.empty_ring.new.row in
     let emptied : IsEmptied cells ring (slots_filled c.loop-ring.closed.slots) (slots_filled c.empty_ring.new.closed.slots) = c.empty_ring.ensures.emptied in
     let same = c.empty_ring.ensures.same in
-    let at : get_elem? words (2 * ring + 2) ≡ some c.word-head.result = (λ i. get_elem? (slots_items (sym inv.words i)) (2 * ring + 2)) ∙ c.word-head.ensures in
+    let at : get_elem? words (16 * ring + 16) ≡ some c.word-head.result = (λ i. get_elem? (slots_items (sym inv.words i)) (16 * ring + 16)) ∙ c.word-head.ensures in
     let found : IsFoundAt words slots cells ring row.items = found_at_head words slots cells ring c.word-head.result row.items at (c.empty_ring.ensures.row ∙ ap (λ (l : List (Option g.row.M.Denot)). found_in l cells ring (c.word-head.result % cells) cells) inv.items) in
     record {
       count = length-set c.loop-ring.rows.items ring row ∙ inv.count;

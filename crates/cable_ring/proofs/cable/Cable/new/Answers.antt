@@ -8,7 +8,7 @@ use Rattle.cable_ring.proofs.cable.Cable.new.Goals as goal
 
 pub vacant-requires : goal.vacant-requires
 vacant-requires g c = let told : plan_of c.in_ok-layout.layout ≡ plan_with c.args.first c.args.cells c.args.actors c.args.rings.now = c.in_ok-layout.ensures in
-    let blank : c.in_ok-words.words.items ≡ replicate (2 * length c.args.rings.now + 2) 0 = c.in_ok-words.ensures.items_if_clones_equal (λ y e. search rules) in
+    let blank : c.in_ok-words.words.items ≡ replicate (16 * length c.args.rings.now + 16) 0 = c.in_ok-words.ensures.items_if_clones_equal (λ y e. search rules) in
     cable_begins_at (plan_of c.in_ok-layout.layout) c.as_slice.result.now (length c.args.rings.now * c.args.cells) (subst (λ (q : Plan). IsPlan q) (sym told) c.requires.limits)
-    (c.as_slice.ensures.value ∙ ap (λ (l : List ℕ). set l 0 c.args.first) blank ∙ (λ i. set (replicate (2 * length (sym told i).rings + 2) 0) 0 (sym told i).first))
+    (c.as_slice.ensures.value ∙ ap (λ (l : List ℕ). set l 0 c.args.first) blank ∙ (λ i. set (replicate (16 * length (sym told i).rings + 16) 0) 0 (sym told i).first))
     (λ i. length (sym told i).rings * (sym told i).cells)
