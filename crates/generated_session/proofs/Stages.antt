@@ -1,0 +1,188 @@
+-- What the lines so far say of a generated session's sections and counts, and what one more adds to it.
+use Rattle.std.proofs.Common.{◌≡◌, ℕ, zero, suc, ◌+◌, ◌-◌, ◌≤◌, Bool, true, false, eqb, List, [], ◌∷◌, ◌++◌, length, Some, None, refl, sym, ap, subst, ◌∙◌, arith}
+use Rattle.std.specs.Prelude.{nat_lt, nat_le, slice_get, Option}
+use Rattle.std.specs.Option.{option_map_or}
+use Rattle.std.specs.Fmt.{digits}
+use Rattle.std.proofs.lemmas.Bool.Decides.{nat_tests}
+use Rattle.std.proofs.lemmas.List.{length_push}
+use Rattle.session_script.specs.declared.session.Session.{Session}
+use Rattle.session_script.specs.declared.session.Inst.{Inst}
+use Rattle.session_script.specs.declared.session.Action.{Action}
+use Rattle.session_script.specs.Draft.{draft_of, reached, insts_of, numbers_of}
+use Rattle.session_script.specs.Limits.{blocks_or_default}
+use Rattle.session_script.specs.Line.{Line, Act}
+use Rattle.session_script.specs.Line.Line.{set, cable, out, at}
+use Rattle.session_script.specs.Places.{is_there}
+use Rattle.session_script.specs.Rules.{broken_rule, block_reached}
+use Rattle.session_script.specs.Script.{session_of, session_from}
+use Rattle.session_script.specs.Sections.{order}
+use Rattle.session_script.specs.Step.{with_line}
+use Rattle.session_script.specs.Words.{value_of}
+use Rattle.session_script.proofs.Adding.{draft_of-push}
+use Rattle.session_script.proofs.Finds.{not_late}
+use Rattle.generated_session.proofs.Tables.{head, head_lines, the_insts, IsInstName, IsBlockWord}
+use Rattle.generated_session.proofs.Unbroken.{MayFollow, IsThere, IsInTurn}
+
+-- the section of the last line, and how many cables, outs and actions there are, of which none is after a block
+pub record IsAt (ls : List Line) (section cables outs actions last : ℕ) : Type 0 where
+  pub in_section : order (reached ls) ≡ section
+  pub insts : insts_of ls ≡ the_insts
+  pub block : (session_of ls).block ≡ 64
+  pub blocks : (session_of ls).blocks ≡ 512
+  pub bundles : length (session_of ls).bundles ≡ 0
+  pub count_cables : length (session_of ls).cables ≡ cables
+  pub count_outs : length (session_of ls).outs ≡ outs
+  pub count_actions : length (session_of ls).actions ≡ actions
+  pub not_after : block_reached (session_of ls).actions ≤ last
+
+pub head_at : IsAt head_lines 3 0 0 0 0
+unfolding the_insts head_lines head digits
+head_at = record {
+  in_section = refl;
+  insts = refl;
+  block = refl;
+  blocks = refl;
+  bundles = refl;
+  count_cables = refl;
+  count_outs = refl;
+  count_actions = refl;
+  not_after = omega arith;
+}
+
+-- ---- what may come next
+
+-- a line of section n may come after one of section k
+pub record Goes (k n : ℕ) : Type 0 where
+  pub begun : eqb k 0 ≡ false
+  pub timely : nat_lt n k ≡ false
+  pub low : nat_le k n ≡ true
+
+above : (k : ℕ) → eqb k 0 ≡ false → 1 ≤ k
+above k h = grind (arith, nat_tests)
+
+pub may_follow : (ls : List Line) (n k cables outs actions last : ℕ) → IsAt ls k cables outs actions last → Goes k n → MayFollow ls n
+may_follow ls n k cables outs actions last is goes = record {
+  begun = ap (λ s. eqb s 0) is.in_section ∙ goes.begun;
+  timely = ap (nat_lt n) is.in_section ∙ goes.timely;
+}
+
+pub begun_by : (ls : List Line) (k n cables outs actions last : ℕ) → IsAt ls k cables outs actions last → Goes k n → 1 ≤ order (reached ls)
+begun_by ls k n cables outs actions last is goes =
+    let section = is.in_section in
+    let some : 1 ≤ k = above k goes.begun in
+    omega arith
+
+pub name_there : (ls : List Line) (word : List ℕ) (k cables outs actions last : ℕ) → IsAt ls k cables outs actions last → IsInstName word → IsThere ls word
+name_there ls word k cables outs actions last is known = record {
+  name = known.name;
+  there = ap (λ (insts : List Inst). is_there insts word) is.insts ∙ known.there;
+}
+
+not_below : (n m : ℕ) → m ≤ n → nat_lt n m ≡ false
+not_below n m h = grind (arith, nat_tests)
+
+pub in_turn : (ls : List Line) (word : List ℕ) (block k cables outs actions last : ℕ) → IsAt ls k cables outs actions last → IsBlockWord word block → last ≤ block → block ≤ 512 → IsInTurn ls word
+in_turn ls word block k cables outs actions last is known high low =
+    let value = known.value in
+    let not_after = is.not_after in
+    let blocks : blocks_or_default (numbers_of ls) ≡ 512 = is.blocks in
+    record {
+      number = known.number;
+      after = not_below (value_of word) (block_reached (session_of ls).actions) (omega arith);
+      within = not_below (blocks_or_default (numbers_of ls)) (value_of word) (omega arith);
+    }
+
+-- ---- a line more
+
+-- the session with it
+session_more : (ls : List Line) (line : Line) → broken_rule (draft_of ls) line ≡ None → session_of (ls ++ line ∷ []) ≡ session_from (with_line (draft_of ls) (length ls + 1) line)
+session_more ls line h = ap session_from (draft_of-push ls line (not_late (draft_of ls) line h))
+
+-- its section
+section_more : (ls : List Line) (line : Line) → broken_rule (draft_of ls) line ≡ None → order (reached (ls ++ line ∷ [])) ≡ order (with_line (draft_of ls) (length ls + 1) line).section
+section_more ls line h = let e = draft_of-push ls line (not_late (draft_of ls) line h) in λ i. order (e i).section
+
+pub set_more : (ls : List Line) (name symbol word : List ℕ) (k cables outs actions last : ℕ) → IsAt ls k cables outs actions last → Goes k 4
+    → broken_rule (draft_of ls) (set name symbol word) ≡ None → IsAt (ls ++ set name symbol word ∷ []) 4 cables outs actions last
+set_more ls name symbol word k cables outs actions last is goes h =
+    let line = set name symbol word in
+    let here : order (with_line (draft_of ls) (length ls + 1) line).section ≡ 4 = rw (is.in_section, goes.low) refl in
+    let more = session_more ls line h in
+    record {
+      in_section = section_more ls line h ∙ here;
+      insts = ap (λ (s : Session). s.insts) more ∙ is.insts;
+      block = ap (λ (s : Session). s.block) more ∙ is.block;
+      blocks = ap (λ (s : Session). s.blocks) more ∙ is.blocks;
+      bundles = ap (λ (s : Session). length s.bundles) more ∙ is.bundles;
+      count_cables = ap (λ (s : Session). length s.cables) more ∙ is.count_cables;
+      count_outs = ap (λ (s : Session). length s.outs) more ∙ is.count_outs;
+      count_actions = ap (λ (s : Session). length s.actions) more ∙ is.count_actions;
+      not_after = subst (λ (s : Session). block_reached s.actions ≤ last) (sym more) is.not_after;
+    }
+
+pub cable_more : (ls : List Line) (source output target input : List ℕ) (k cables outs actions last : ℕ) → IsAt ls k cables outs actions last → Goes k 5
+    → broken_rule (draft_of ls) (cable source output target input None) ≡ None → IsAt (ls ++ cable source output target input None ∷ []) 5 (cables + 1) outs actions last
+cable_more ls source output target input k cables outs actions last is goes h =
+    let line = cable source output target input None in
+    let here : order (with_line (draft_of ls) (length ls + 1) line).section ≡ 5 = rw (is.in_section, goes.low) refl in
+    let more = session_more ls line h in
+    record {
+      in_section = section_more ls line h ∙ here;
+      insts = ap (λ (s : Session). s.insts) more ∙ is.insts;
+      block = ap (λ (s : Session). s.block) more ∙ is.block;
+      blocks = ap (λ (s : Session). s.blocks) more ∙ is.blocks;
+      bundles = ap (λ (s : Session). length s.bundles) more ∙ is.bundles;
+      count_cables = ap (λ (s : Session). length s.cables) more ∙ length_push (session_of ls).cables _ ∙ ap (λ n. n + 1) is.count_cables;
+      count_outs = ap (λ (s : Session). length s.outs) more ∙ is.count_outs;
+      count_actions = ap (λ (s : Session). length s.actions) more ∙ is.count_actions;
+      not_after = subst (λ (s : Session). block_reached s.actions ≤ last) (sym more) is.not_after;
+    }
+
+pub out_more : (ls : List Line) (name symbol : List ℕ) (k cables outs actions last : ℕ) → IsAt ls k cables outs actions last → Goes k 6
+    → broken_rule (draft_of ls) (out name symbol) ≡ None → IsAt (ls ++ out name symbol ∷ []) 6 cables (outs + 1) actions last
+out_more ls name symbol k cables outs actions last is goes h =
+    let line = out name symbol in
+    let here : order (with_line (draft_of ls) (length ls + 1) line).section ≡ 6 = rw (is.in_section, goes.low) refl in
+    let more = session_more ls line h in
+    record {
+      in_section = section_more ls line h ∙ here;
+      insts = ap (λ (s : Session). s.insts) more ∙ is.insts;
+      block = ap (λ (s : Session). s.block) more ∙ is.block;
+      blocks = ap (λ (s : Session). s.blocks) more ∙ is.blocks;
+      bundles = ap (λ (s : Session). length s.bundles) more ∙ is.bundles;
+      count_cables = ap (λ (s : Session). length s.cables) more ∙ is.count_cables;
+      count_outs = ap (λ (s : Session). length s.outs) more ∙ length_push (session_of ls).outs _ ∙ ap (λ n. n + 1) is.count_outs;
+      count_actions = ap (λ (s : Session). length s.actions) more ∙ is.count_actions;
+      not_after = subst (λ (s : Session). block_reached s.actions ≤ last) (sym more) is.not_after;
+    }
+
+-- the last of a list
+got : {X : Type 0} (xs : List X) (x : X) (n : ℕ) → length xs ≡ n → slice_get (xs ++ x ∷ []) n ≡ Some x
+got [] x zero e = refl
+got [] x (suc n) e = absurd (omega arith)
+got (y ∷ xs) x zero e = absurd (omega arith)
+got (y ∷ xs) x (suc n) e = got xs x n (omega arith)
+
+block_pushed : (actions : List Action) (action : Action) → block_reached (actions ++ action ∷ []) ≡ action.block
+block_pushed actions action =
+    let place : length actions ≡ length (actions ++ action ∷ []) - 1 = omega (arith, length_push actions action) in
+    ap (λ o. option_map_or (λ (a : Action). a.block) o 0) (got actions action (length (actions ++ action ∷ []) - 1) place)
+
+pub at_more : (ls : List Line) (word name : List ℕ) (act : Act) (block k cables outs actions last : ℕ) → IsAt ls k cables outs actions last → Goes k 7 → value_of word ≡ block
+    → broken_rule (draft_of ls) (at word name act) ≡ None → IsAt (ls ++ at word name act ∷ []) 7 cables outs (actions + 1) block
+at_more ls word name act block k cables outs actions last is goes value h =
+    let line = at word name act in
+    let here : order (with_line (draft_of ls) (length ls + 1) line).section ≡ 7 = rw (is.in_section, goes.low) refl in
+    let more = session_more ls line h in
+    let at_block : block_reached (session_of (ls ++ line ∷ [])).actions ≡ block = ap (λ (s : Session). block_reached s.actions) more ∙ block_pushed (session_of ls).actions _ ∙ value in
+    record {
+      in_section = section_more ls line h ∙ here;
+      insts = ap (λ (s : Session). s.insts) more ∙ is.insts;
+      block = ap (λ (s : Session). s.block) more ∙ is.block;
+      blocks = ap (λ (s : Session). s.blocks) more ∙ is.blocks;
+      bundles = ap (λ (s : Session). length s.bundles) more ∙ is.bundles;
+      count_cables = ap (λ (s : Session). length s.cables) more ∙ is.count_cables;
+      count_outs = ap (λ (s : Session). length s.outs) more ∙ is.count_outs;
+      count_actions = ap (λ (s : Session). length s.actions) more ∙ length_push (session_of ls).actions _ ∙ ap (λ n. n + 1) is.count_actions;
+      not_after = omega (arith, at_block);
+    }

@@ -1,0 +1,24 @@
+//! The text that `session_generate` gives for a number is a session within the limits, and each number has one such text.
+#![tactic(auto)]
+
+ghost use Rattle.std.specs.Prelude.{◌≡◌, ℕ, List};
+ghost use Rattle.session_script.specs.declared.session.Session.{Session};
+ghost use Rattle.session_script.specs.Script.{IsSessionOf};
+ghost use Rattle.session_generate.specs.Generated.{IsGenerated};
+ghost use Rattle.generated_session.specs.Sizes.{IsOfSize};
+
+/// A law, and no step of a program: the text of each number breaks no rule of a session script, passes no limit, and says a session of sixteen
+/// instances, eight cables, two outs and 64 actions in 512 blocks of 64 frames.
+pub fn is_session()
+    ensures { (seed : ℕ) (text : List ℕ) → IsGenerated seed text → (session : Session) × IsSessionOf text session × IsOfSize session }
+{}
+
+/// A law, and no step of a program: a number has one text.
+pub fn one_text()
+    ensures { (seed : ℕ) (a b : List ℕ) → IsGenerated seed a → IsGenerated seed b → a ≡ b }
+{}
+
+/// A law, and no step of a program: each number has a text.
+pub fn some_text()
+    ensures { (seed : ℕ) → (text : List ℕ) × IsGenerated seed text }
+{}
