@@ -29,15 +29,17 @@ some_text seed =
     let old : Written = record { state = seed; text = [] } in
     let with_insts = after inst_line 16 (settings old) in
     let with_cables = after cable_lines 16 (first_values with_insts) in
-    let last = after action_line 64 (outs with_cables) in
-    (last.text, record {
-      last = last;
-      lines = record {
-        with_insts = with_insts;
-        with_cables = with_cables;
-        insts = writes inst_line 16 (settings old);
-        cables = writes cable_lines 16 (first_values with_insts);
-        actions = writes action_line 64 (outs with_cables);
-      };
-      is = refl;
-    })
+    let last = after action_line 64 (outs with_cables) in (
+      last.text,
+      record {
+        last = last;
+        lines = record {
+          with_insts = with_insts;
+          with_cables = with_cables;
+          insts = writes inst_line 16 (settings old);
+          cables = writes cable_lines 16 (first_values with_insts);
+          actions = writes action_line 64 (outs with_cables);
+        };
+        is = refl;
+      },
+    )

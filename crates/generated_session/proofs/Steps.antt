@@ -1,23 +1,22 @@
 -- What each step of writing adds to a text whose lines break no rule.
-use Rattle.std.proofs.Common.{◌≡◌, ℕ, zero, suc, ◌+◌, ◌*◌, ◌%◌, ◌<◌, ◌≤◌, Bool, true, false, cond, eqb, List, [], ◌∷◌, ◌++◌, fold, None, refl, sym, ap, subst, subst₂, ◌∙◌, arith, append_assoc, mod-lt, lt_of_lt_of_le}
-use Rattle.std.specs.Prelude.{codes, decimal, ◌==◌}
+use Rattle.std.proofs.Common.{◌≡◌, ℕ, ◌+◌, ◌%◌, ◌<◌, true, List, [], ◌∷◌, ◌++◌, None, refl, sym, ap, subst, ◌∙◌, arith, append_assoc, mod-lt}
+use Rattle.std.specs.Prelude.{codes, decimal}
 use Rattle.std.specs.Fmt.{digits}
-use Rattle.std.specs.List.{list_all, range_with_len}
+use Rattle.std.specs.List.{list_all}
 use Rattle.session_script.specs.Draft.{draft_of}
-use Rattle.session_script.specs.Line.{Line, line_of}
-use Rattle.session_script.specs.Line.Act.{set_value, patch_set, patch_get, save}
-use Rattle.session_script.specs.Line.Line.{set, cable, out, at}
+use Rattle.session_script.specs.Line.{Line}
+use Rattle.session_script.specs.Line.Line.{set, cable, out}
 use Rattle.session_script.specs.Rules.{broken_rule}
 use Rattle.session_script.specs.Words.{is_name}
 use Rattle.session_generate.specs.Draws.{next, drawn}
-use Rattle.session_generate.specs.Lines.{Written, write, after_draw, fraction, drawn_value, inst_line, value_line, cable_line, cable_lines, action_by, action_line}
-use Rattle.session_generate.specs.Generated.{WritesEach, settings, first_values, outs}
+use Rattle.session_generate.specs.Lines.{Written, fraction, inst_line, value_line, cable_line}
+use Rattle.session_generate.specs.Generated.{WritesEach, settings, outs}
 use Rattle.generated_session.proofs.Fractions.{fraction_value, fraction_fits, fraction_plain}
 use Rattle.generated_session.proofs.Holding.{Holds, holds_more}
-use Rattle.generated_session.proofs.Stages.{IsAt, Goes, head_at, may_follow, name_there, in_turn, set_more, cable_more, out_more, at_more}
-use Rattle.generated_session.proofs.Tables.{head, head_lines, head_plain, head_says, head_well, name, inst_name, IsInstName, block_word}
+use Rattle.generated_session.proofs.Stages.{IsAt, Goes, head_at, may_follow, name_there, set_more, cable_more, out_more}
+use Rattle.generated_session.proofs.Tables.{head, head_lines, head_plain, head_says, head_well, name, inst_name}
 use Rattle.generated_session.proofs.Texts.{is_plain, line_text, script_text}
-use Rattle.generated_session.proofs.Unbroken.{set_unbroken, cable_unbroken, out_unbroken, set_at_unbroken, patch_at_unbroken, save_at_unbroken, get_at_unbroken}
+use Rattle.generated_session.proofs.Unbroken.{set_unbroken, cable_unbroken, out_unbroken}
 
 -- the text so far, by its lines
 pub record IsUp (text : List ℕ) (section cables outs actions last : ℕ) : Type 0 where

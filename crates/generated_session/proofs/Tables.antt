@@ -1,5 +1,5 @@
 -- The words of a generated session that depend on a number: each is tried.
-use Rattle.std.proofs.Common.{◌≡◌, ℕ, zero, suc, ◌+◌, ◌*◌, ◌%◌, ◌<◌, ◌≤◌, ◌⊎◌, inl, inr, Bool, true, eqb, List, [], ◌∷◌, ◌++◌, map, refl, sym, subst, arith, eq-or-lt_of_le, eqb-true}
+use Rattle.std.proofs.Common.{◌≡◌, ℕ, zero, suc, ◌+◌, ◌*◌, ◌%◌, ◌<◌, ◌≤◌, ◌⊎◌, inl, inr, Bool, true, eqb, List, [], ◌∷◌, ◌++◌, map, refl, subst, arith, eq-or-lt_of_le, eqb-true}
 use Rattle.std.specs.Prelude.{◌&&◌, codes, decimal, is_none, Some, None, Option, length}
 use Rattle.std.specs.Fmt.{digits}
 use Rattle.std.specs.List.{list_all, range_with_len}
@@ -22,6 +22,7 @@ in_range p from (suc count) h k low high = by_first (in_range p (from + 1) count
   where
     parts : (p from ≡ true) × (list_all p (range_with_len (from + 1) count) ≡ true)
     parts = and_parts (p from) (list_all p (range_with_len (from + 1) count)) h
+
     by_first : ((k : ℕ) → from + 1 ≤ k → k < from + 1 + count → p k ≡ true) → (from ≡ k) ⊎ (from < k) → p k ≡ true
     by_first rest (inl same) = subst (λ n. p n ≡ true) same parts.0
     by_first rest (inr more) = rest k (omega arith) (omega arith)

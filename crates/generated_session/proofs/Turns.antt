@@ -1,10 +1,9 @@
 -- What the cables and the actions, all of them, add to a text whose lines break no rule.
-use Rattle.std.proofs.Common.{◌≡◌, ℕ, zero, suc, ◌+◌, ◌*◌, ◌%◌, ◌<◌, ◌≤◌, Bool, true, false, cond, List, [], ◌∷◌, ◌++◌, fold, None, refl, sym, ap, subst, subst₂, ◌∙◌, arith, append_assoc}
+use Rattle.std.proofs.Common.{◌≡◌, ℕ, zero, suc, ◌+◌, ◌*◌, ◌%◌, ◌<◌, ◌≤◌, Bool, true, false, cond, List, [], ◌∷◌, ◌++◌, fold, None, refl, sym, ap, subst, subst₂, arith, append_assoc}
 use Rattle.std.specs.Prelude.{codes, decimal, ◌==◌}
 use Rattle.std.specs.Fmt.{digits}
 use Rattle.std.specs.List.{list_all, range_with_len}
 use Rattle.std.proofs.lemmas.Bool.{and_from}
-use Rattle.turtle_grammar.specs.Characters.{is_excluded}
 use Rattle.session_script.specs.Draft.{draft_of}
 use Rattle.session_script.specs.Line.{Line, Act, line_of}
 use Rattle.session_script.specs.Line.Act.{set_value, patch_set, patch_get, save}
@@ -15,7 +14,7 @@ use Rattle.session_generate.specs.Lines.{Written, write, after_draw, fraction, d
 use Rattle.session_generate.specs.Generated.{WritesEach}
 use Rattle.generated_session.proofs.Fractions.{fraction_value, fraction_fits, fraction_plain}
 use Rattle.generated_session.proofs.Holding.{Holds, holds_more}
-use Rattle.generated_session.proofs.Stages.{IsAt, Goes, may_follow, name_there, in_turn, at_more}
+use Rattle.generated_session.proofs.Stages.{Goes, may_follow, name_there, in_turn, at_more}
 use Rattle.generated_session.proofs.Steps.{IsUp, cable_up}
 use Rattle.generated_session.proofs.Tables.{name, inst_name, block_word}
 use Rattle.generated_session.proofs.Texts.{is_plain, line_text}

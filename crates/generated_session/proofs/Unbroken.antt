@@ -1,6 +1,6 @@
 -- The lines of a generated session after its instances break no rule.
-use Rattle.std.proofs.Common.{◌≡◌, ℕ, Bool, true, false, cond, not, eqb, List, [], ◌∷◌, Some, None, Ok, refl, ap, ◌∙◌}
-use Rattle.std.specs.Prelude.{nat_lt, nat_le, codes}
+use Rattle.std.proofs.Common.{◌≡◌, ℕ, Bool, true, false, cond, not, eqb, List, [], ◌∷◌, Some, None, Ok, refl, ◌∙◌}
+use Rattle.std.specs.Prelude.{nat_lt, codes}
 use Rattle.std.specs.List.{find, list_all}
 use Rattle.std.proofs.lemmas.Bool.{and_parts, false≢true}
 use Rattle.turtle_grammar.specs.Characters.{is_excluded}
@@ -8,7 +8,7 @@ use Rattle.lv_base.specs.declared.number.Fixed.{Fixed}
 use Rattle.lv_base.specs.Decimal.{fixed_of}
 use Rattle.session_script.specs.Draft.{draft_of, reached, insts_of, numbers_of}
 use Rattle.session_script.specs.Limits.{blocks_or_default}
-use Rattle.session_script.specs.Line.{Line, Act}
+use Rattle.session_script.specs.Line.{Line}
 use Rattle.session_script.specs.Line.Act.{set_value, patch_set, patch_get, save}
 use Rattle.session_script.specs.Line.Line.{set, cable, out, at}
 use Rattle.session_script.specs.Places.{is_there}

@@ -1,18 +1,16 @@
 -- A generated text is a session.
-use Rattle.std.proofs.Common.{◌≡◌, ℕ, ◌+◌, ◌*◌, ◌<◌, ◌≤◌, Bool, true, false, cond, List, [], ◌∷◌, length, filter, None, refl, sym, ap, subst, ◌∙◌, arith}
-use Rattle.std.specs.Prelude.{nat_lt, not}
-use Rattle.std.specs.List.{find, list_all}
+use Rattle.std.proofs.Common.{◌≡◌, ℕ, ◌≤◌, Bool, true, false, cond, List, [], ◌∷◌, length, filter, None, refl, sym, ap, subst, ◌∙◌, arith}
+use Rattle.std.specs.Prelude.{nat_lt}
 use Rattle.std.specs.Option.{option_map}
 use Rattle.std.proofs.lemmas.Bool.Decides.{nat_tests}
 use Rattle.session_script.specs.declared.session.Session.{Session}
 use Rattle.session_script.specs.Limits.{Count, counts, passed, is_save}
-use Rattle.session_script.specs.Line.{Line}
 use Rattle.session_script.specs.Script.{IsSessionOf, session_of}
 use Rattle.session_generate.specs.Lines.{Written, value_line}
 use Rattle.session_generate.specs.Generated.{IsGenerated, first_values, outs}
 use Rattle.generated_session.specs.Sizes.{IsOfSize}
 use Rattle.generated_session.proofs.Holding.{session_held}
-use Rattle.generated_session.proofs.Stages.{IsAt, Goes, begun_by}
+use Rattle.generated_session.proofs.Stages.{begun_by}
 use Rattle.generated_session.proofs.Tables.{many_insts}
 use Rattle.generated_session.proofs.Steps.{IsUp, head_up, value_up, outs_up}
 use Rattle.generated_session.proofs.Turns.{IsActed, cables_up, actions_up}

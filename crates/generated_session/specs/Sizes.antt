@@ -1,5 +1,5 @@
 -- How large the session of each number is.
-use Rattle.std.specs.Prelude.{◌≡◌, ℕ, length}
+use Rattle.std.specs.Prelude.{◌≡◌, length}
 use Rattle.session_script.specs.declared.session.Session.{Session}
 
 pub record IsOfSize (s : Session) : Type 0 where
