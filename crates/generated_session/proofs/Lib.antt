@@ -1,6 +1,7 @@
 pub mod Counted
 pub mod Fractions
 pub mod Holding
+pub mod Lengths
 pub mod Stages
 pub mod Steps
 pub mod Tables

@@ -1,10 +1,12 @@
 -- What the lines so far say of a generated session's sections and counts, and what one more adds to it.
-use Rattle.std.proofs.Common.{◌≡◌, ℕ, zero, suc, ◌+◌, ◌-◌, ◌≤◌, true, false, eqb, List, [], ◌∷◌, ◌++◌, length, Some, None, refl, sym, ap, subst, ◌∙◌, arith}
-use Rattle.std.specs.Prelude.{nat_lt, nat_le, slice_get}
+use Rattle.std.proofs.Common.{◌≡◌, ℕ, zero, suc, ◌+◌, ◌-◌, ◌≤◌, true, false, eqb, List, [], ◌∷◌, ◌++◌, length, Some, None, refl, sym, ap, subst, ◌∙◌, arith, add-one, ◌*◌, ◌<◌}
+use Rattle.std.specs.Prelude.{All, map, nat_lt, nat_le, slice_get}
 use Rattle.std.specs.Option.{option_map_or}
+use Rattle.std.specs.List.{range_with_len}
 use Rattle.std.specs.Fmt.{digits}
 use Rattle.std.proofs.lemmas.Bool.Decides.{nat_tests}
-use Rattle.std.proofs.lemmas.List.{length_push}
+use Rattle.std.proofs.lemmas.List.{length_push, map_push}
+use Rattle.std.proofs.lemmas.List.Elements.{All-nil, All-push}
 use Rattle.session_script.specs.declared.session.Session.{Session}
 use Rattle.session_script.specs.declared.session.Inst.{Inst}
 use Rattle.session_script.specs.declared.session.Action.{Action}
@@ -12,7 +14,7 @@ use Rattle.session_script.specs.Draft.{draft_of, reached, insts_of, numbers_of}
 use Rattle.session_script.specs.Limits.{blocks_or_default}
 use Rattle.session_script.specs.Line.{Line, Act}
 use Rattle.session_script.specs.Line.Line.{set, cable, out, at}
-use Rattle.session_script.specs.Places.{is_there}
+use Rattle.session_script.specs.Places.{is_there, place}
 use Rattle.session_script.specs.Rules.{broken_rule, block_reached}
 use Rattle.session_script.specs.Script.{session_of, session_from}
 use Rattle.session_script.specs.Sections.{order}
@@ -20,6 +22,8 @@ use Rattle.session_script.specs.Step.{with_line}
 use Rattle.session_script.specs.Words.{value_of}
 use Rattle.session_script.proofs.Adding.{draft_of-push}
 use Rattle.session_script.proofs.Finds.{not_late}
+use Rattle.session_script.specs.Valid.{block_of}
+use Rattle.generated_session.specs.Shape.{LeadsOn}
 use Rattle.generated_session.proofs.Tables.{head, head_lines, the_insts, IsInstName, IsBlockWord}
 use Rattle.generated_session.proofs.Unbroken.{MayFollow, IsThere, IsInTurn}
 
@@ -31,8 +35,10 @@ pub record IsAt (ls : List Line) (section cables outs actions last : ℕ) : Type
   pub blocks : (session_of ls).blocks ≡ 512
   pub bundles : length (session_of ls).bundles ≡ 0
   pub count_cables : length (session_of ls).cables ≡ cables
+  pub leads : All LeadsOn (session_of ls).cables
   pub count_outs : length (session_of ls).outs ≡ outs
   pub count_actions : length (session_of ls).actions ≡ actions
+  pub in_blocks : map block_of (session_of ls).actions ≡ map (λ number. 8 * number) (range_with_len 0 actions)
   pub not_after : block_reached (session_of ls).actions ≤ last
 
 pub head_at : IsAt head_lines 3 0 0 0 0
@@ -44,8 +50,10 @@ head_at = record {
   blocks = refl;
   bundles = refl;
   count_cables = refl;
+  leads = All-nil LeadsOn;
   count_outs = refl;
   count_actions = refl;
+  in_blocks = refl;
   not_after = omega arith;
 }
 
@@ -72,8 +80,8 @@ begun_by ls k n cables outs actions last is goes =
     let some : 1 ≤ k = above k goes.begun in
     omega arith
 
-pub name_there : (ls : List Line) (word : List ℕ) (k cables outs actions last : ℕ) → IsAt ls k cables outs actions last → IsInstName word → IsThere ls word
-name_there ls word k cables outs actions last is known = record {
+pub name_there : (ls : List Line) (word : List ℕ) (inst k cables outs actions last : ℕ) → IsAt ls k cables outs actions last → IsInstName word inst → IsThere ls word
+name_there ls word inst k cables outs actions last is known = record {
   name = known.name;
   there = ap (λ (insts : List Inst). is_there insts word) is.insts ∙ known.there;
 }
@@ -115,14 +123,17 @@ set_more ls name symbol word k cables outs actions last is goes h =
       blocks = ap (λ (s : Session). s.blocks) more ∙ is.blocks;
       bundles = ap (λ (s : Session). length s.bundles) more ∙ is.bundles;
       count_cables = ap (λ (s : Session). length s.cables) more ∙ is.count_cables;
+      leads = subst (λ (s : Session). All LeadsOn s.cables) (sym more) is.leads;
       count_outs = ap (λ (s : Session). length s.outs) more ∙ is.count_outs;
       count_actions = ap (λ (s : Session). length s.actions) more ∙ is.count_actions;
+      in_blocks = ap (λ (s : Session). map block_of s.actions) more ∙ is.in_blocks;
       not_after = subst (λ (s : Session). block_reached s.actions ≤ last) (sym more) is.not_after;
     }
 
 pub cable_more : (ls : List Line) (source output target input : List ℕ) (k cables outs actions last : ℕ) → IsAt ls k cables outs actions last → Goes k 5
+    → (place (insts_of ls) source < place (insts_of ls) target) × (place (insts_of ls) target < 16)
     → broken_rule (draft_of ls) (cable source output target input None) ≡ None → IsAt (ls ++ cable source output target input None ∷ []) 5 (cables + 1) outs actions last
-cable_more ls source output target input k cables outs actions last is goes h =
+cable_more ls source output target input k cables outs actions last is goes leads h =
     let line = cable source output target input None in
     let here : order (with_line (draft_of ls) (length ls + 1) line).section ≡ 5 = rw (is.in_section, goes.low) refl in
     let more = session_more ls line h in
@@ -133,8 +144,10 @@ cable_more ls source output target input k cables outs actions last is goes h =
       blocks = ap (λ (s : Session). s.blocks) more ∙ is.blocks;
       bundles = ap (λ (s : Session). length s.bundles) more ∙ is.bundles;
       count_cables = ap (λ (s : Session). length s.cables) more ∙ length_push (session_of ls).cables _ ∙ ap (λ n. n + 1) is.count_cables;
+      leads = subst (λ (s : Session). All LeadsOn s.cables) (sym more) (All-push LeadsOn (session_of ls).cables _ is.leads (record { later = leads.0; there = leads.1; at_once = refl }));
       count_outs = ap (λ (s : Session). length s.outs) more ∙ is.count_outs;
       count_actions = ap (λ (s : Session). length s.actions) more ∙ is.count_actions;
+      in_blocks = ap (λ (s : Session). map block_of s.actions) more ∙ is.in_blocks;
       not_after = subst (λ (s : Session). block_reached s.actions ≤ last) (sym more) is.not_after;
     }
 
@@ -151,8 +164,10 @@ out_more ls name symbol k cables outs actions last is goes h =
       blocks = ap (λ (s : Session). s.blocks) more ∙ is.blocks;
       bundles = ap (λ (s : Session). length s.bundles) more ∙ is.bundles;
       count_cables = ap (λ (s : Session). length s.cables) more ∙ is.count_cables;
+      leads = subst (λ (s : Session). All LeadsOn s.cables) (sym more) is.leads;
       count_outs = ap (λ (s : Session). length s.outs) more ∙ length_push (session_of ls).outs _ ∙ ap (λ n. n + 1) is.count_outs;
       count_actions = ap (λ (s : Session). length s.actions) more ∙ is.count_actions;
+      in_blocks = ap (λ (s : Session). map block_of s.actions) more ∙ is.in_blocks;
       not_after = subst (λ (s : Session). block_reached s.actions ≤ last) (sym more) is.not_after;
     }
 
@@ -168,13 +183,28 @@ block_pushed actions action =
     let place : length actions ≡ length (actions ++ action ∷ []) - 1 = omega (arith, length_push actions action) in
     ap (λ o. option_map_or (λ (a : Action). a.block) o 0) (got actions action (length (actions ++ action ∷ []) - 1) place)
 
-pub at_more : (ls : List Line) (word name : List ℕ) (act : Act) (block k cables outs actions last : ℕ) → IsAt ls k cables outs actions last → Goes k 7 → value_of word ≡ block
-    → broken_rule (draft_of ls) (at word name act) ≡ None → IsAt (ls ++ at word name act ∷ []) 7 cables outs (actions + 1) block
-at_more ls word name act block k cables outs actions last is goes value h =
+-- the blocks of one action more
+range_more : (from count : ℕ) → range_with_len from (suc count) ≡ range_with_len from count ++ (from + count) ∷ []
+range_more from zero = ap (λ n. n ∷ []) (omega arith)
+range_more from (suc count) =
+    let next : from + 1 + count ≡ from + suc count = omega arith in
+    ap (λ rest. from ∷ rest) (range_more (from + 1) count) ∙ ap (λ n. from ∷ (range_with_len (from + 1) count ++ n ∷ [])) next
+
+eighths_more : (count : ℕ) → map (λ number. 8 * number) (range_with_len 0 (count + 1)) ≡ map (λ number. 8 * number) (range_with_len 0 count) ++ 8 * count ∷ []
+eighths_more count =
+    let place : 0 + count ≡ count = omega arith in
+    ap (λ n. map (λ number. 8 * number) (range_with_len 0 n)) (add-one count) ∙ ap (map (λ number. 8 * number)) (range_more 0 count)
+    ∙ map_push (λ number. 8 * number) (range_with_len 0 count) (0 + count) ∙ ap (λ n. map (λ number. 8 * number) (range_with_len 0 count) ++ 8 * n ∷ []) place
+
+pub at_more : (ls : List Line) (word name : List ℕ) (act : Act) (k cables outs actions last : ℕ) → IsAt ls k cables outs actions last → Goes k 7 → value_of word ≡ 8 * actions
+    → broken_rule (draft_of ls) (at word name act) ≡ None → IsAt (ls ++ at word name act ∷ []) 7 cables outs (actions + 1) (8 * actions)
+at_more ls word name act k cables outs actions last is goes value h =
     let line = at word name act in
     let here : order (with_line (draft_of ls) (length ls + 1) line).section ≡ 7 = rw (is.in_section, goes.low) refl in
     let more = session_more ls line h in
-    let at_block : block_reached (session_of (ls ++ line ∷ [])).actions ≡ block = ap (λ (s : Session). block_reached s.actions) more ∙ block_pushed (session_of ls).actions _ ∙ value in
+    let pushed : map block_of (session_of ls).actions ++ value_of word ∷ [] ≡ map (λ number. 8 * number) (range_with_len 0 actions) ++ 8 * actions ∷ [] =
+    λ i. is.in_blocks i ++ value i ∷ [] in
+    let at_block : block_reached (session_of (ls ++ line ∷ [])).actions ≡ 8 * actions = ap (λ (s : Session). block_reached s.actions) more ∙ block_pushed (session_of ls).actions _ ∙ value in
     record {
       in_section = section_more ls line h ∙ here;
       insts = ap (λ (s : Session). s.insts) more ∙ is.insts;
@@ -182,7 +212,9 @@ at_more ls word name act block k cables outs actions last is goes value h =
       blocks = ap (λ (s : Session). s.blocks) more ∙ is.blocks;
       bundles = ap (λ (s : Session). length s.bundles) more ∙ is.bundles;
       count_cables = ap (λ (s : Session). length s.cables) more ∙ is.count_cables;
+      leads = subst (λ (s : Session). All LeadsOn s.cables) (sym more) is.leads;
       count_outs = ap (λ (s : Session). length s.outs) more ∙ is.count_outs;
       count_actions = ap (λ (s : Session). length s.actions) more ∙ length_push (session_of ls).actions _ ∙ ap (λ n. n + 1) is.count_actions;
+      in_blocks = ap (λ (s : Session). map block_of s.actions) more ∙ map_push block_of (session_of ls).actions _ ∙ pushed ∙ sym (eighths_more actions);
       not_after = omega (arith, at_block);
     }

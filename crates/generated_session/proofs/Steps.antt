@@ -3,7 +3,9 @@ use Rattle.std.proofs.Common.{◌≡◌, ℕ, ◌+◌, ◌%◌, ◌<◌, true, L
 use Rattle.std.specs.Prelude.{codes, decimal}
 use Rattle.std.specs.Fmt.{digits}
 use Rattle.std.specs.List.{list_all}
-use Rattle.session_script.specs.Draft.{draft_of}
+use Rattle.session_script.specs.declared.session.Inst.{Inst}
+use Rattle.session_script.specs.Draft.{draft_of, insts_of}
+use Rattle.session_script.specs.Places.{place}
 use Rattle.session_script.specs.Line.{Line}
 use Rattle.session_script.specs.Line.Line.{set, cable, out}
 use Rattle.session_script.specs.Rules.{broken_rule}
@@ -26,7 +28,7 @@ pub record IsUp (text : List ℕ) (section cables outs actions last : ℕ) : Typ
 
 -- ---- settings and instances
 
-head_written : (seed : ℕ) (new : Written) → WritesEach inst_line 16 (settings (record { state = seed; text = [] })) new → new.text ≡ script_text head
+pub head_written : (seed : ℕ) (new : Written) → WritesEach inst_line 16 (settings (record { state = seed; text = [] })) new → new.text ≡ script_text head
 unfolding head digits
 head_written seed new written = ap (λ (it : Written). it.text) written.each
 
@@ -45,7 +47,7 @@ value_up it inst k cables outs actions last low goes up =
     let ws = codes "set" ∷ name inst ∷ codes "value" ∷ fraction n ∷ [] in
     let line = set (name inst) (codes "value") (fraction n) in
     let known = inst_name inst low in
-    let there = name_there up.ls (name inst) k cables outs actions last up.is known in
+    let there = name_there up.ls (name inst) inst k cables outs actions last up.is known in
     let unbroken : broken_rule (draft_of up.ls) line ≡ None =
     set_unbroken up.ls (name inst) (codes "value") (fraction n) (fraction_value n) (may_follow up.ls 4 k cables outs actions last up.is goes) there refl (fraction_fits n) in
     let plain : list_all is_plain ws ≡ true = rw (known.plain, fraction_plain n) refl in
@@ -72,16 +74,18 @@ cable_up it inst symbol k cables outs actions last some low symbol_plain symbol_
     let line = cable (name source) (codes "out") (name inst) symbol None in
     let from = inst_name source (omega arith) in
     let to = inst_name inst low in
+    let at_source : place (insts_of up.ls) (name source) ≡ source = ap (λ (insts : List Inst). place insts (name source)) up.is.insts ∙ from.is in
+    let at_inst : place (insts_of up.ls) (name inst) ≡ inst = ap (λ (insts : List Inst). place insts (name inst)) up.is.insts ∙ to.is in
     let unbroken : broken_rule (draft_of up.ls) line ≡ None =
     cable_unbroken up.ls (name source) (codes "out") (name inst) symbol (may_follow up.ls 5 k cables outs actions last up.is goes)
-    (name_there up.ls (name source) k cables outs actions last up.is from) refl (name_there up.ls (name inst) k cables outs actions last up.is to) symbol_is in
+    (name_there up.ls (name source) source k cables outs actions last up.is from) refl (name_there up.ls (name inst) inst k cables outs actions last up.is to) symbol_is in
     let plain : list_all is_plain ws ≡ true = rw (from.plain, to.plain, symbol_plain) refl in
     let text : (cable_line inst it symbol).text ≡ it.text ++ line_text ws =
     ap (λ t. it.text ++ (codes "cable n" ++ t)) (regrouped (decimal source) (codes " out n") (decimal inst) (codes " ") symbol (codes "\n")) in
     record {
       ls = up.ls ++ line ∷ [];
       holds = subst (λ t. Holds t (up.ls ++ line ∷ [])) (sym text) (holds_more it.text up.ls ws up.holds plain unbroken);
-      is = cable_more up.ls (name source) (codes "out") (name inst) symbol k cables outs actions last up.is goes unbroken;
+      is = cable_more up.ls (name source) (codes "out") (name inst) symbol k cables outs actions last up.is goes (omega (arith, below, at_source, at_inst), omega (arith, at_inst, low)) unbroken;
     }
 
 -- ---- outs
@@ -93,7 +97,7 @@ out_up text inst k cables outs actions last low goes up =
     let line = out (name inst) (codes "out") in
     let known = inst_name inst low in
     let unbroken : broken_rule (draft_of up.ls) line ≡ None =
-    out_unbroken up.ls (name inst) (codes "out") (may_follow up.ls 6 k cables outs actions last up.is goes) (name_there up.ls (name inst) k cables outs actions last up.is known) refl in
+    out_unbroken up.ls (name inst) (codes "out") (may_follow up.ls 6 k cables outs actions last up.is goes) (name_there up.ls (name inst) inst k cables outs actions last up.is known) refl in
     record {
       ls = up.ls ++ line ∷ [];
       holds = holds_more text up.ls ws up.holds (rw known.plain refl) unbroken;

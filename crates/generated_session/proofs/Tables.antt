@@ -1,6 +1,6 @@
 -- The words of a generated session that depend on a number: each is tried.
-use Rattle.std.proofs.Common.{◌≡◌, ℕ, zero, suc, ◌+◌, ◌*◌, ◌%◌, ◌<◌, ◌≤◌, ◌⊎◌, inl, inr, Bool, true, eqb, List, [], ◌∷◌, ◌++◌, map, refl, subst, arith, eq-or-lt_of_le, eqb-true}
-use Rattle.std.specs.Prelude.{◌&&◌, codes, decimal, is_none, Some, None, Option, length}
+use Rattle.std.proofs.Common.{◌≡◌, ℕ, zero, suc, ◌+◌, ◌*◌, ◌<◌, ◌≤◌, ◌⊎◌, inl, inr, Bool, true, eqb, List, [], ◌∷◌, ◌++◌, map, refl, subst, arith, eq-or-lt_of_le, eqb-true, leb-true}
+use Rattle.std.specs.Prelude.{◌&&◌, nat_le, codes, decimal, is_none, Some, None, Option, length}
 use Rattle.std.specs.Fmt.{digits}
 use Rattle.std.specs.List.{list_all, range_with_len}
 use Rattle.std.proofs.lemmas.Bool.{and_parts}
@@ -8,11 +8,11 @@ use Rattle.turtle_grammar.specs.Characters.{is_excluded}
 use Rattle.session_script.specs.declared.session.Inst.{Inst}
 use Rattle.session_script.specs.Draft.{insts_of}
 use Rattle.session_script.specs.Line.{Line, line_of}
-use Rattle.session_script.specs.Places.{is_there}
+use Rattle.session_script.specs.Places.{is_there, place}
 use Rattle.session_script.specs.Script.{AreWell, rule_at}
 use Rattle.session_script.specs.Sorts.{is_number}
 use Rattle.session_script.specs.Words.{is_name, value_of}
-use Rattle.session_generate.specs.Lines.{code_of}
+use Rattle.generated_session.specs.Shape.{plugin, uri_of}
 use Rattle.generated_session.proofs.Texts.{is_plain}
 
 -- what passes in a whole range passes at each number of it
@@ -35,7 +35,7 @@ name k = codes "n" ++ decimal k
 -- ---- the lines of the settings and of the instances
 
 abbrev inst_words : ℕ → List (List ℕ)
-inst_words k = codes "inst" ∷ name k ∷ (codes "urn:lv2fx:" ++ code_of (k % 8)) ∷ []
+inst_words k = codes "inst" ∷ name k ∷ plugin k ∷ []
 
 -- Not an abbrev, as what it says isn't, so that no later proof computes it
 unfoldable pub head : List (List (List ℕ))
@@ -53,6 +53,10 @@ the_insts = insts_of head_lines
 pub many_insts : length the_insts ≡ 16
 unfolding the_insts head_lines head digits
 many_insts = refl
+
+pub plugins : map uri_of the_insts ≡ map plugin (range_with_len 0 16)
+unfolding the_insts head_lines head digits
+plugins = refl
 
 pub head_plain : list_all (list_all is_plain) head ≡ true
 unfolding head digits
@@ -89,31 +93,37 @@ head_well k low = well_at k (in_range is_well 0 21 all_well k (omega arith) (ome
 -- ---- the names of the instances
 
 is_named : ℕ → Bool
-is_named k = is_plain (name k) && (is_name (name k) && is_there the_insts (name k))
+is_named k = is_plain (name k) && (is_name (name k) && (is_there the_insts (name k) && (eqb (place the_insts (name k)) k && nat_le (length (name k)) 3)))
 
 all_named : list_all is_named (range_with_len 0 16) ≡ true
 unfolding is_named the_insts head_lines head digits
 all_named = refl
 
-pub record IsInstName (word : List ℕ) : Type 0 where
+pub record IsInstName (word : List ℕ) (inst : ℕ) : Type 0 where
   pub plain : is_plain word ≡ true
   pub name : is_name word ≡ true
   pub there : is_there the_insts word ≡ true
+  pub is : place the_insts word ≡ inst
+  pub short : length word ≤ 3
 
-named : (k : ℕ) → is_named k ≡ true → IsInstName (name k)
+named : (k : ℕ) → is_named k ≡ true → IsInstName (name k) k
 unfolding is_named
 named k h =
-    let parts = and_parts (is_plain (name k)) (is_name (name k) && is_there the_insts (name k)) h in
-    let more = and_parts (is_name (name k)) (is_there the_insts (name k)) parts.1 in
-    record { plain = parts.0; name = more.0; there = more.1 }
+    let word = name k in
+    let short = nat_le (length word) 3 in
+    let parts = and_parts (is_plain word) (is_name word && (is_there the_insts word && (eqb (place the_insts word) k && short))) h in
+    let more = and_parts (is_name word) (is_there the_insts word && (eqb (place the_insts word) k && short)) parts.1 in
+    let rest = and_parts (is_there the_insts word) (eqb (place the_insts word) k && short) more.1 in
+    let last = and_parts (eqb (place the_insts word) k) short rest.1 in
+    record { plain = parts.0; name = more.0; there = rest.0; is = eqb-true (place the_insts word) k last.0; short = leb-true (length word) 3 last.1 }
 
-pub inst_name : (k : ℕ) → k < 16 → IsInstName (name k)
+pub inst_name : (k : ℕ) → k < 16 → IsInstName (name k) k
 inst_name k low = named k (in_range is_named 0 16 all_named k (omega arith) (omega arith))
 
 -- ---- the blocks of the actions
 
 is_block : ℕ → Bool
-is_block k = is_plain (decimal (8 * k)) && (is_number (decimal (8 * k)) && eqb (value_of (decimal (8 * k))) (8 * k))
+is_block k = is_plain (decimal (8 * k)) && (is_number (decimal (8 * k)) && (eqb (value_of (decimal (8 * k))) (8 * k) && nat_le (length (decimal (8 * k))) 3))
 
 all_blocks : list_all is_block (range_with_len 0 64) ≡ true
 unfolding is_block digits
@@ -123,14 +133,17 @@ pub record IsBlockWord (word : List ℕ) (block : ℕ) : Type 0 where
   pub plain : is_plain word ≡ true
   pub number : is_number word ≡ true
   pub value : value_of word ≡ block
+  pub short : length word ≤ 3
 
 blocked : (k : ℕ) → is_block k ≡ true → IsBlockWord (decimal (8 * k)) (8 * k)
 unfolding is_block
 blocked k h =
     let word = decimal (8 * k) in
-    let parts = and_parts (is_plain word) (is_number word && eqb (value_of word) (8 * k)) h in
-    let more = and_parts (is_number word) (eqb (value_of word) (8 * k)) parts.1 in
-    record { plain = parts.0; number = more.0; value = eqb-true (value_of word) (8 * k) more.1 }
+    let short = nat_le (length word) 3 in
+    let parts = and_parts (is_plain word) (is_number word && (eqb (value_of word) (8 * k) && short)) h in
+    let more = and_parts (is_number word) (eqb (value_of word) (8 * k) && short) parts.1 in
+    let last = and_parts (eqb (value_of word) (8 * k)) short more.1 in
+    record { plain = parts.0; number = more.0; value = eqb-true (value_of word) (8 * k) last.0; short = leb-true (length word) 3 last.1 }
 
 pub block_word : (k : ℕ) → k < 64 → IsBlockWord (decimal (8 * k)) (8 * k)
 block_word k low = blocked k (in_range is_block 0 64 all_blocks k (omega arith) (omega arith))

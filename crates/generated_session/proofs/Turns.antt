@@ -49,23 +49,23 @@ cables_up it new written up =
 -- ---- an action
 
 -- a text that an action may be added to at a block of the run
-record IsDue (text : List ℕ) (number cables outs actions : ℕ) : Type 0 where
+record IsDue (text : List ℕ) (cables outs actions : ℕ) : Type 0 where
   pub section : ℕ
   pub last : ℕ
   pub goes : Goes section 7
-  pub early : last ≤ 8 * number
-  pub within : number < 64
+  pub early : last ≤ 8 * actions
+  pub within : actions < 64
   pub up : IsUp text section cables outs actions last
 
 -- a line that is added to it
-added_up : (text : List ℕ) (number cables outs actions : ℕ) (due : IsDue text number cables outs actions) (word : List ℕ) (act : Act) (verb : List ℕ) (rest : List (List ℕ))
-    → line_of (codes "at" ∷ decimal (8 * number) ∷ verb ∷ rest) ≡ at (decimal (8 * number)) word act → list_all is_plain (verb ∷ rest) ≡ true
-    → broken_rule (draft_of due.up.ls) (at (decimal (8 * number)) word act) ≡ None
-    → IsUp (text ++ (codes "at " ++ decimal (8 * number)) ++ 32 ∷ line_text (verb ∷ rest)) 7 cables outs (actions + 1) (8 * number)
-added_up text number cables outs actions due word act verb rest says plain unbroken =
+added_up : (text : List ℕ) (cables outs actions : ℕ) (due : IsDue text cables outs actions) (word : List ℕ) (act : Act) (verb : List ℕ) (rest : List (List ℕ))
+    → line_of (codes "at" ∷ decimal (8 * actions) ∷ verb ∷ rest) ≡ at (decimal (8 * actions)) word act → list_all is_plain (verb ∷ rest) ≡ true
+    → broken_rule (draft_of due.up.ls) (at (decimal (8 * actions)) word act) ≡ None
+    → IsUp (text ++ (codes "at " ++ decimal (8 * actions)) ++ 32 ∷ line_text (verb ∷ rest)) 7 cables outs (actions + 1) (8 * actions)
+added_up text cables outs actions due word act verb rest says plain unbroken =
     let up = due.up in
-    let block = decimal (8 * number) in
-    let known = block_word number due.within in
+    let block = decimal (8 * actions) in
+    let known = block_word actions due.within in
     let ws = codes "at" ∷ block ∷ verb ∷ rest in
     let line : Line = at block word act in
     let here : broken_rule (draft_of up.ls) (line_of ws) ≡ None = subst (λ l. broken_rule (draft_of up.ls) l ≡ None) (sym says) unbroken in
@@ -75,87 +75,87 @@ added_up text number cables outs actions due word act verb rest says plain unbro
     record {
       ls = up.ls ++ line ∷ [];
       holds = subst₂ Holds same lines (holds_more text up.ls ws up.holds all here);
-      is = at_more up.ls block word act (8 * number) due.section cables outs actions due.last up.is due.goes known.value unbroken;
+      is = at_more up.ls block word act due.section cables outs actions due.last up.is due.goes known.value unbroken;
     }
 
-follows : (text : List ℕ) (number cables outs actions : ℕ) (due : IsDue text number cables outs actions) → MayFollow due.up.ls 7
-follows text number cables outs actions due = may_follow due.up.ls 7 due.section cables outs actions due.last due.up.is due.goes
+follows : (text : List ℕ) (cables outs actions : ℕ) (due : IsDue text cables outs actions) → MayFollow due.up.ls 7
+follows text cables outs actions due = may_follow due.up.ls 7 due.section cables outs actions due.last due.up.is due.goes
 
-turn : (text : List ℕ) (number cables outs actions : ℕ) (due : IsDue text number cables outs actions) → IsInTurn due.up.ls (decimal (8 * number))
-turn text number cables outs actions due =
+turn : (text : List ℕ) (cables outs actions : ℕ) (due : IsDue text cables outs actions) → IsInTurn due.up.ls (decimal (8 * actions))
+turn text cables outs actions due =
     let within = due.within in
-    in_turn due.up.ls (decimal (8 * number)) (8 * number) due.section cables outs actions due.last due.up.is (block_word number due.within) due.early (omega arith)
+    in_turn due.up.ls (decimal (8 * actions)) (8 * actions) due.section cables outs actions due.last due.up.is (block_word actions due.within) due.early (omega arith)
 
-there : (text : List ℕ) (number cables outs actions : ℕ) (due : IsDue text number cables outs actions) (inst : ℕ) → inst < 16 → IsThere due.up.ls (name inst)
-there text number cables outs actions due inst low = name_there due.up.ls (name inst) due.section cables outs actions due.last due.up.is (inst_name inst low)
+there : (text : List ℕ) (cables outs actions : ℕ) (due : IsDue text cables outs actions) (inst : ℕ) → inst < 16 → IsThere due.up.ls (name inst)
+there text cables outs actions due inst low = name_there due.up.ls (name inst) inst due.section cables outs actions due.last due.up.is (inst_name inst low)
 
 -- the text of the beginning of an action's line
 abbrev begun : List ℕ → ℕ → List ℕ
-begun text number = text ++ (codes "at " ++ decimal (8 * number))
+begun text actions = text ++ (codes "at " ++ decimal (8 * actions))
 
-set_up : (text : List ℕ) (number cables outs actions n : ℕ) → IsDue text number cables outs actions → IsUp (begun text number ++ (codes " set n0 value " ++ fraction n ++ codes "\n")) 7 cables outs (actions + 1) (8 * number)
+set_up : (text : List ℕ) (cables outs actions n : ℕ) → IsDue text cables outs actions → IsUp (begun text actions ++ (codes " set n0 value " ++ fraction n ++ codes "\n")) 7 cables outs (actions + 1) (8 * actions)
 unfolding digits
-set_up text number cables outs actions n due =
-    let unbroken = set_at_unbroken due.up.ls (decimal (8 * number)) (name 0) (codes "value") (fraction n) (fraction_value n) (follows text number cables outs actions due)
-    (turn text number cables outs actions due) (there text number cables outs actions due 0 (omega arith)) refl (fraction_fits n) in
-    added_up text number cables outs actions due (name 0) (set_value (codes "value") (fraction n)) (codes "set") (name 0 ∷ codes "value" ∷ fraction n ∷ []) refl (rw (fraction_plain n) refl) unbroken
+set_up text cables outs actions n due =
+    let unbroken = set_at_unbroken due.up.ls (decimal (8 * actions)) (name 0) (codes "value") (fraction n) (fraction_value n) (follows text cables outs actions due)
+    (turn text cables outs actions due) (there text cables outs actions due 0 (omega arith)) refl (fraction_fits n) in
+    added_up text cables outs actions due (name 0) (set_value (codes "value") (fraction n)) (codes "set") (name 0 ∷ codes "value" ∷ fraction n ∷ []) refl (rw (fraction_plain n) refl) unbroken
 
-patch_up : (text : List ℕ) (number cables outs actions n : ℕ) → IsDue text number cables outs actions
-    → IsUp (begun text number ++ (codes " patch-set n7 urn:lv2fx:level fixed " ++ fraction n ++ codes "\n")) 7 cables outs (actions + 1) (8 * number)
+patch_up : (text : List ℕ) (cables outs actions n : ℕ) → IsDue text cables outs actions
+    → IsUp (begun text actions ++ (codes " patch-set n7 urn:lv2fx:level fixed " ++ fraction n ++ codes "\n")) 7 cables outs (actions + 1) (8 * actions)
 unfolding digits
-patch_up text number cables outs actions n due =
-    let unbroken = patch_at_unbroken due.up.ls (decimal (8 * number)) (name 7) (fraction n) (fraction_value n) (follows text number cables outs actions due)
-    (turn text number cables outs actions due) (there text number cables outs actions due 7 (omega arith)) (fraction_fits n) in
-    added_up text number cables outs actions due (name 7) (patch_set (codes "urn:lv2fx:level") (codes "fixed") (fraction n)) (codes "patch-set")
+patch_up text cables outs actions n due =
+    let unbroken = patch_at_unbroken due.up.ls (decimal (8 * actions)) (name 7) (fraction n) (fraction_value n) (follows text cables outs actions due)
+    (turn text cables outs actions due) (there text cables outs actions due 7 (omega arith)) (fraction_fits n) in
+    added_up text cables outs actions due (name 7) (patch_set (codes "urn:lv2fx:level") (codes "fixed") (fraction n)) (codes "patch-set")
     (name 7 ∷ codes "urn:lv2fx:level" ∷ codes "fixed" ∷ fraction n ∷ []) refl (rw (fraction_plain n) refl) unbroken
 
-save_up : (text : List ℕ) (number cables outs actions : ℕ) → IsDue text number cables outs actions → IsUp (begun text number ++ codes " save n15\n") 7 cables outs (actions + 1) (8 * number)
+save_up : (text : List ℕ) (cables outs actions : ℕ) → IsDue text cables outs actions → IsUp (begun text actions ++ codes " save n15\n") 7 cables outs (actions + 1) (8 * actions)
 unfolding digits
-save_up text number cables outs actions due =
-    let unbroken = save_at_unbroken due.up.ls (decimal (8 * number)) (name 15) (follows text number cables outs actions due)
-    (turn text number cables outs actions due) (there text number cables outs actions due 15 (omega arith)) in
-    added_up text number cables outs actions due (name 15) save (codes "save") (name 15 ∷ []) refl refl unbroken
+save_up text cables outs actions due =
+    let unbroken = save_at_unbroken due.up.ls (decimal (8 * actions)) (name 15) (follows text cables outs actions due)
+    (turn text cables outs actions due) (there text cables outs actions due 15 (omega arith)) in
+    added_up text cables outs actions due (name 15) save (codes "save") (name 15 ∷ []) refl refl unbroken
 
-get_up : (text : List ℕ) (number cables outs actions : ℕ) → IsDue text number cables outs actions → IsUp (begun text number ++ codes " patch-get n7\n") 7 cables outs (actions + 1) (8 * number)
+get_up : (text : List ℕ) (cables outs actions : ℕ) → IsDue text cables outs actions → IsUp (begun text actions ++ codes " patch-get n7\n") 7 cables outs (actions + 1) (8 * actions)
 unfolding digits
-get_up text number cables outs actions due =
-    let unbroken = get_at_unbroken due.up.ls (decimal (8 * number)) (name 7) (follows text number cables outs actions due)
-    (turn text number cables outs actions due) (there text number cables outs actions due 7 (omega arith)) in
-    added_up text number cables outs actions due (name 7) (patch_get None) (codes "patch-get") (name 7 ∷ []) refl refl unbroken
+get_up text cables outs actions due =
+    let unbroken = get_at_unbroken due.up.ls (decimal (8 * actions)) (name 7) (follows text cables outs actions due)
+    (turn text cables outs actions due) (there text cables outs actions due 7 (omega arith)) in
+    added_up text cables outs actions due (name 7) (patch_get None) (codes "patch-get") (name 7 ∷ []) refl refl unbroken
 
 -- whichever is drawn
 either : (P : Written → Type 0) (test : Bool) (a b : Written) → P a → P b → P (cond test a b)
 either P true a b x y = x
 either P false a b x y = y
 
-chosen : (P : Written → Type 0) (choice : ℕ) (it : Written) → P (drawn_value (codes " set n0 value ") it) → P (drawn_value (codes " patch-set n7 urn:lv2fx:level fixed ") it)
+pub chosen : (P : Written → Type 0) (choice : ℕ) (it : Written) → P (drawn_value (codes " set n0 value ") it) → P (drawn_value (codes " patch-set n7 urn:lv2fx:level fixed ") it)
     → P (write (codes " save n15\n") it) → P (write (codes " patch-get n7\n") it) → P (action_by choice it)
 chosen P choice it a b c d = either P (choice == 0) _ _ a (either P (choice == 1) _ _ b (either P (choice == 2) _ _ c d))
 
-action_up : (it : Written) (number cables outs actions : ℕ) → IsDue it.text number cables outs actions → IsUp (action_line it number).text 7 cables outs (actions + 1) (8 * number)
-action_up it number cables outs actions due =
-    let later = write (codes "at " ++ decimal (8 * number)) (after_draw it) in
+action_up : (it : Written) (cables outs actions : ℕ) → IsDue it.text cables outs actions → IsUp (action_line it actions).text 7 cables outs (actions + 1) (8 * actions)
+action_up it cables outs actions due =
+    let later = write (codes "at " ++ decimal (8 * actions)) (after_draw it) in
     let n = drawn (next later.state) in
-    chosen (λ (w : Written). IsUp w.text 7 cables outs (actions + 1) (8 * number)) (drawn (next it.state) % 4) later
-    (set_up it.text number cables outs actions n due) (patch_up it.text number cables outs actions n due) (save_up it.text number cables outs actions due) (get_up it.text number cables outs actions due)
+    chosen (λ (w : Written). IsUp w.text 7 cables outs (actions + 1) (8 * actions)) (drawn (next it.state) % 4) later
+    (set_up it.text cables outs actions n due) (patch_up it.text cables outs actions n due) (save_up it.text cables outs actions due) (get_up it.text cables outs actions due)
 
 -- ---- the actions
 
--- a text that n actions were added to
-pub record IsActed (text : List ℕ) (number cables outs actions : ℕ) : Type 0 where
+-- a text that actions were added to
+pub record IsActed (text : List ℕ) (cables outs actions : ℕ) : Type 0 where
   pub section : ℕ
   pub last : ℕ
   pub goes : Goes section 7
-  pub early : last ≤ 8 * number
+  pub early : last ≤ 8 * actions
   pub up : IsUp text section cables outs actions last
 
-one_more : (it : Written) (number cables outs actions : ℕ) → number < 64 → IsActed it.text number cables outs actions → IsActed (action_line it number).text (number + 1) cables outs (actions + 1)
-one_more it number cables outs actions low acted = record {
+one_more : (it : Written) (cables outs actions : ℕ) → actions < 64 → IsActed it.text cables outs actions → IsActed (action_line it actions).text cables outs (actions + 1)
+one_more it cables outs actions low acted = record {
   section = 7;
-  last = 8 * number;
+  last = 8 * actions;
   goes = record { begun = refl; timely = refl; low = refl };
   early = omega arith;
-  up = action_up it number cables outs actions (record {
+  up = action_up it cables outs actions (record {
     section = acted.section;
     last = acted.last;
     goes = acted.goes;
@@ -165,18 +165,18 @@ one_more it number cables outs actions low acted = record {
   });
 }
 
-each_more : (count from : ℕ) (it : Written) (cables outs actions : ℕ) → from + count ≤ 64 → IsActed it.text from cables outs actions
-    → IsActed (fold action_line it (range_with_len from count)).text (from + count) cables outs (actions + count)
-each_more zero from it cables outs actions low acted = subst₂ (λ n a. IsActed it.text n cables outs a) (omega arith) (omega arith) acted
-each_more (suc count) from it cables outs actions low acted =
-    let rest = each_more count (from + 1) (action_line it from) cables outs (actions + 1) (omega arith) (one_more it from cables outs actions (omega arith) acted) in
-    subst₂ (λ n a. IsActed (fold action_line (action_line it from) (range_with_len (from + 1) count)).text n cables outs a) (omega arith) (omega arith) rest
+each_more : (count : ℕ) (it : Written) (cables outs actions : ℕ) → actions + count ≤ 64 → IsActed it.text cables outs actions
+    → IsActed (fold action_line it (range_with_len actions count)).text cables outs (actions + count)
+each_more zero it cables outs actions low acted = subst (IsActed it.text cables outs) (omega arith) acted
+each_more (suc count) it cables outs actions low acted =
+    let rest = each_more count (action_line it actions) cables outs (actions + 1) (omega arith) (one_more it cables outs actions (omega arith) acted) in
+    subst (IsActed (fold action_line (action_line it actions) (range_with_len (actions + 1) count)).text cables outs) (omega arith) rest
 
 -- as many as are written
-acted_by : (count : ℕ) (it new : Written) (k cables outs : ℕ) → count ≤ 64 → WritesEach action_line count it new → Goes k 7 → IsUp it.text k cables outs 0 0 → IsActed new.text (0 + count) cables outs (0 + count)
+acted_by : (count : ℕ) (it new : Written) (k cables outs : ℕ) → count ≤ 64 → WritesEach action_line count it new → Goes k 7 → IsUp it.text k cables outs 0 0 → IsActed new.text cables outs (0 + count)
 acted_by count it new k cables outs low written goes up =
-    subst (λ (w : Written). IsActed w.text (0 + count) cables outs (0 + count)) (sym written.each)
-    (each_more count 0 it cables outs 0 (omega arith) (record { section = k; last = 0; goes = goes; early = omega arith; up = up }))
+    subst (λ (w : Written). IsActed w.text cables outs (0 + count)) (sym written.each)
+    (each_more count it cables outs 0 (omega arith) (record { section = k; last = 0; goes = goes; early = omega arith; up = up }))
 
-pub actions_up : (it new : Written) (k cables outs : ℕ) → WritesEach action_line 64 it new → Goes k 7 → IsUp it.text k cables outs 0 0 → IsActed new.text 64 cables outs 64
+pub actions_up : (it new : Written) (k cables outs : ℕ) → WritesEach action_line 64 it new → Goes k 7 → IsUp it.text k cables outs 0 0 → IsActed new.text cables outs 64
 actions_up it new k cables outs written goes up = acted_by 64 it new k cables outs (omega arith) written goes up

@@ -30,7 +30,7 @@ not_found p (x ∷ xs) h = past (p x) (and_parts (not (p x)) (list_all (λ y. no
 unbroken : (ls : List Line) (line : Line) → list_all (λ rule. not (breaks rule (draft_of ls) line)) table ≡ true → broken_rule (draft_of ls) line ≡ None
 unbroken ls line h = not_found (λ rule. breaks rule (draft_of ls) line) table h
 
--- lines are in a section from k on, and a line of section n may follow them
+-- lines that a line of section n may follow
 pub record MayFollow (ls : List Line) (n : ℕ) : Type 0 where
   pub begun : eqb (order (reached ls)) 0 ≡ false
   pub timely : nat_lt n (order (reached ls)) ≡ false

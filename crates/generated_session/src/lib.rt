@@ -1,16 +1,17 @@
 //! The text that `session_generate` gives for a number is a session within the limits, and each number has one such text.
 #![tactic(auto)]
 
-ghost use Rattle.std.specs.Prelude.{◌≡◌, ℕ, List};
+ghost use Rattle.std.specs.Prelude.{◌≡◌, ◌≤◌, ℕ, List, length};
 ghost use Rattle.session_script.specs.declared.session.Session.{Session};
 ghost use Rattle.session_script.specs.Script.{IsSessionOf};
 ghost use Rattle.session_generate.specs.Generated.{IsGenerated};
-ghost use Rattle.generated_session.specs.Sizes.{IsOfSize};
+ghost use Rattle.generated_session.specs.Shape.{IsOfShape};
 
-/// A law, and no step of a program: the text of each number breaks no rule of a session script, passes no limit, and says a session of sixteen
-/// instances, eight cables, two outs and 64 actions in 512 blocks of 64 frames.
+/// A law, and no step of a program: the text of each number breaks no rule of a session script and passes no limit. Its session has two instances
+/// of each stock code, eight cables that each lead to a later instance, two outs, and an action every eight blocks.
 pub fn is_session()
-    ensures { (seed : ℕ) (text : List ℕ) → IsGenerated seed text → (session : Session) × IsSessionOf text session × IsOfSize session }
+    ensures session { (seed : ℕ) (text : List ℕ) → IsGenerated seed text → (session : Session) × IsSessionOf text session × IsOfShape session }
+    ensures short { (seed : ℕ) (text : List ℕ) → IsGenerated seed text → length text ≤ 4608 }
 {}
 
 /// A law, and no step of a program: a number has one text.
