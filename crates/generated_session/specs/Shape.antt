@@ -20,7 +20,7 @@ pub record LeadsOn (cable : CableLine) : Type 0 where
   pub there : cable.target < 16
   pub at_once : cable.delayed ≡ false
 
--- 512 blocks of 64 frames; two instances of each stock code; eight cables, which make no circle; two outs; 64 actions, one every eight blocks
+-- 512 blocks of 64 frames; two instances of each stock code; eight cables, which make no cycle; two outs; 64 actions, one every eight blocks
 pub record IsOfShape (s : Session) : Type 0 where
   pub block : s.block ≡ 64
   pub blocks : s.blocks ≡ 512
