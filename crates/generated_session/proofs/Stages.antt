@@ -1,6 +1,6 @@
 -- What the lines so far say of a generated session's sections and counts, and what one more adds to it.
 use Rattle.std.proofs.Common.{◌≡◌, ℕ, zero, suc, ◌+◌, ◌-◌, ◌≤◌, true, false, eqb, List, [], ◌∷◌, ◌++◌, length, Some, None, refl, sym, ap, subst, ◌∙◌, arith, add-one, ◌*◌, ◌<◌}
-use Rattle.std.specs.Prelude.{All, map, nat_lt, nat_le, slice_get}
+use Rattle.std.specs.Prelude.{Contains, codes, ◌%◌, All, map, nat_lt, nat_le, slice_get}
 use Rattle.std.specs.Option.{option_map_or}
 use Rattle.std.specs.List.{range_with_len}
 use Rattle.std.specs.Fmt.{digits}
@@ -10,7 +10,7 @@ use Rattle.std.proofs.lemmas.List.Elements.{All-nil, All-push}
 use Rattle.session_script.specs.declared.session.Session.{Session}
 use Rattle.session_script.specs.declared.session.Inst.{Inst}
 use Rattle.session_script.specs.declared.session.Action.{Action}
-use Rattle.session_script.specs.Draft.{draft_of, reached, insts_of, numbers_of}
+use Rattle.session_script.specs.Draft.{deed_of, draft_of, reached, insts_of, numbers_of}
 use Rattle.session_script.specs.Limits.{blocks_or_default}
 use Rattle.session_script.specs.Line.{Line, Act}
 use Rattle.session_script.specs.Line.Line.{set, cable, out, at}
@@ -23,7 +23,8 @@ use Rattle.session_script.specs.Words.{value_of}
 use Rattle.session_script.proofs.Adding.{draft_of-push}
 use Rattle.session_script.proofs.Finds.{not_late}
 use Rattle.session_script.specs.Valid.{block_of}
-use Rattle.generated_session.specs.Shape.{LeadsOn}
+use Rattle.generated_session.specs.Shape.{SetsConstant, LeadsOn, IsHeard, IsDoneTo, IsDrawn}
+use Rattle.session_generate.specs.Lines.{inputs_of}
 use Rattle.generated_session.proofs.Tables.{head, head_lines, the_insts, IsInstName, IsBlockWord}
 use Rattle.generated_session.proofs.Unbroken.{MayFollow, IsThere, IsInTurn}
 
@@ -35,7 +36,10 @@ pub record IsAt (ls : List Line) (section cables outs actions last : ℕ) : Type
   pub blocks : (session_of ls).blocks ≡ 512
   pub bundles : length (session_of ls).bundles ≡ 0
   pub count_cables : length (session_of ls).cables ≡ cables
+  pub sets : All SetsConstant (session_of ls).sets
   pub leads : All LeadsOn (session_of ls).cables
+  pub heard : All IsHeard (session_of ls).outs
+  pub drawn : All IsDrawn (session_of ls).actions
   pub count_outs : length (session_of ls).outs ≡ outs
   pub count_actions : length (session_of ls).actions ≡ actions
   pub in_blocks : map block_of (session_of ls).actions ≡ map (λ number. 8 * number) (range_with_len 0 actions)
@@ -50,7 +54,10 @@ head_at = record {
   blocks = refl;
   bundles = refl;
   count_cables = refl;
+  sets = All-nil SetsConstant;
   leads = All-nil LeadsOn;
+  heard = All-nil IsHeard;
+  drawn = All-nil IsDrawn;
   count_outs = refl;
   count_actions = refl;
   in_blocks = refl;
@@ -86,6 +93,9 @@ name_there ls word inst k cables outs actions last is known = record {
   there = ap (λ (insts : List Inst). is_there insts word) is.insts ∙ known.there;
 }
 
+pub name_place : (ls : List Line) (word : List ℕ) (inst k cables outs actions last : ℕ) → IsAt ls k cables outs actions last → IsInstName word inst → place (insts_of ls) word ≡ inst
+name_place ls word inst k cables outs actions last is known = ap (λ (insts : List Inst). place insts word) is.insts ∙ known.is
+
 not_below : (n m : ℕ) → m ≤ n → nat_lt n m ≡ false
 not_below n m h = grind (arith, nat_tests)
 
@@ -111,8 +121,8 @@ section_more : (ls : List Line) (line : Line) → broken_rule (draft_of ls) line
 section_more ls line h = let e = draft_of-push ls line (not_late (draft_of ls) line h) in λ i. order (e i).section
 
 pub set_more : (ls : List Line) (name symbol word : List ℕ) (k cables outs actions last : ℕ) → IsAt ls k cables outs actions last → Goes k 4
-    → broken_rule (draft_of ls) (set name symbol word) ≡ None → IsAt (ls ++ set name symbol word ∷ []) 4 cables outs actions last
-set_more ls name symbol word k cables outs actions last is goes h =
+    → (place (insts_of ls) name < 16) × (place (insts_of ls) name % 8 ≡ 0) × (symbol ≡ codes "value") → broken_rule (draft_of ls) (set name symbol word) ≡ None → IsAt (ls ++ set name symbol word ∷ []) 4 cables outs actions last
+set_more ls name symbol word k cables outs actions last is goes sets h =
     let line = set name symbol word in
     let here : order (with_line (draft_of ls) (length ls + 1) line).section ≡ 4 = rw (is.in_section, goes.low) refl in
     let more = session_more ls line h in
@@ -123,7 +133,10 @@ set_more ls name symbol word k cables outs actions last is goes h =
       blocks = ap (λ (s : Session). s.blocks) more ∙ is.blocks;
       bundles = ap (λ (s : Session). length s.bundles) more ∙ is.bundles;
       count_cables = ap (λ (s : Session). length s.cables) more ∙ is.count_cables;
+      sets = subst (λ (s : Session). All SetsConstant s.sets) (sym more) (All-push SetsConstant (session_of ls).sets _ is.sets (record { there = sets.0; constant = sets.1; symbol = sets.2 }));
       leads = subst (λ (s : Session). All LeadsOn s.cables) (sym more) is.leads;
+      heard = subst (λ (s : Session). All IsHeard s.outs) (sym more) is.heard;
+      drawn = subst (λ (s : Session). All IsDrawn s.actions) (sym more) is.drawn;
       count_outs = ap (λ (s : Session). length s.outs) more ∙ is.count_outs;
       count_actions = ap (λ (s : Session). length s.actions) more ∙ is.count_actions;
       in_blocks = ap (λ (s : Session). map block_of s.actions) more ∙ is.in_blocks;
@@ -131,7 +144,7 @@ set_more ls name symbol word k cables outs actions last is goes h =
     }
 
 pub cable_more : (ls : List Line) (source output target input : List ℕ) (k cables outs actions last : ℕ) → IsAt ls k cables outs actions last → Goes k 5
-    → (place (insts_of ls) source < place (insts_of ls) target) × (place (insts_of ls) target < 16)
+    → (place (insts_of ls) source < place (insts_of ls) target) × (place (insts_of ls) target < 16) × (output ≡ codes "out") × Contains (inputs_of (place (insts_of ls) target % 8)) input
     → broken_rule (draft_of ls) (cable source output target input None) ≡ None → IsAt (ls ++ cable source output target input None ∷ []) 5 (cables + 1) outs actions last
 cable_more ls source output target input k cables outs actions last is goes leads h =
     let line = cable source output target input None in
@@ -144,7 +157,11 @@ cable_more ls source output target input k cables outs actions last is goes lead
       blocks = ap (λ (s : Session). s.blocks) more ∙ is.blocks;
       bundles = ap (λ (s : Session). length s.bundles) more ∙ is.bundles;
       count_cables = ap (λ (s : Session). length s.cables) more ∙ length_push (session_of ls).cables _ ∙ ap (λ n. n + 1) is.count_cables;
-      leads = subst (λ (s : Session). All LeadsOn s.cables) (sym more) (All-push LeadsOn (session_of ls).cables _ is.leads (record { later = leads.0; there = leads.1; at_once = refl }));
+      sets = subst (λ (s : Session). All SetsConstant s.sets) (sym more) is.sets;
+      leads = subst (λ (s : Session). All LeadsOn s.cables) (sym more)
+          (All-push LeadsOn (session_of ls).cables _ is.leads (record { later = leads.0; there = leads.1; output = leads.2; input = leads.3; at_once = refl }));
+      heard = subst (λ (s : Session). All IsHeard s.outs) (sym more) is.heard;
+      drawn = subst (λ (s : Session). All IsDrawn s.actions) (sym more) is.drawn;
       count_outs = ap (λ (s : Session). length s.outs) more ∙ is.count_outs;
       count_actions = ap (λ (s : Session). length s.actions) more ∙ is.count_actions;
       in_blocks = ap (λ (s : Session). map block_of s.actions) more ∙ is.in_blocks;
@@ -152,8 +169,8 @@ cable_more ls source output target input k cables outs actions last is goes lead
     }
 
 pub out_more : (ls : List Line) (name symbol : List ℕ) (k cables outs actions last : ℕ) → IsAt ls k cables outs actions last → Goes k 6
-    → broken_rule (draft_of ls) (out name symbol) ≡ None → IsAt (ls ++ out name symbol ∷ []) 6 cables (outs + 1) actions last
-out_more ls name symbol k cables outs actions last is goes h =
+    → (place (insts_of ls) name < 16) × (symbol ≡ codes "out") → broken_rule (draft_of ls) (out name symbol) ≡ None → IsAt (ls ++ out name symbol ∷ []) 6 cables (outs + 1) actions last
+out_more ls name symbol k cables outs actions last is goes heard h =
     let line = out name symbol in
     let here : order (with_line (draft_of ls) (length ls + 1) line).section ≡ 6 = rw (is.in_section, goes.low) refl in
     let more = session_more ls line h in
@@ -164,7 +181,10 @@ out_more ls name symbol k cables outs actions last is goes h =
       blocks = ap (λ (s : Session). s.blocks) more ∙ is.blocks;
       bundles = ap (λ (s : Session). length s.bundles) more ∙ is.bundles;
       count_cables = ap (λ (s : Session). length s.cables) more ∙ is.count_cables;
+      sets = subst (λ (s : Session). All SetsConstant s.sets) (sym more) is.sets;
       leads = subst (λ (s : Session). All LeadsOn s.cables) (sym more) is.leads;
+      heard = subst (λ (s : Session). All IsHeard s.outs) (sym more) (All-push IsHeard (session_of ls).outs _ is.heard (record { there = heard.0; symbol = heard.1 }));
+      drawn = subst (λ (s : Session). All IsDrawn s.actions) (sym more) is.drawn;
       count_outs = ap (λ (s : Session). length s.outs) more ∙ length_push (session_of ls).outs _ ∙ ap (λ n. n + 1) is.count_outs;
       count_actions = ap (λ (s : Session). length s.actions) more ∙ is.count_actions;
       in_blocks = ap (λ (s : Session). map block_of s.actions) more ∙ is.in_blocks;
@@ -197,8 +217,9 @@ eighths_more count =
     ∙ map_push (λ number. 8 * number) (range_with_len 0 count) (0 + count) ∙ ap (λ n. map (λ number. 8 * number) (range_with_len 0 count) ++ 8 * n ∷ []) place
 
 pub at_more : (ls : List Line) (word name : List ℕ) (act : Act) (k cables outs actions last : ℕ) → IsAt ls k cables outs actions last → Goes k 7 → value_of word ≡ 8 * actions
+    → IsDoneTo (place (insts_of ls) name) (deed_of act)
     → broken_rule (draft_of ls) (at word name act) ≡ None → IsAt (ls ++ at word name act ∷ []) 7 cables outs (actions + 1) (8 * actions)
-at_more ls word name act k cables outs actions last is goes value h =
+at_more ls word name act k cables outs actions last is goes value drawn h =
     let line = at word name act in
     let here : order (with_line (draft_of ls) (length ls + 1) line).section ≡ 7 = rw (is.in_section, goes.low) refl in
     let more = session_more ls line h in
@@ -212,7 +233,10 @@ at_more ls word name act k cables outs actions last is goes value h =
       blocks = ap (λ (s : Session). s.blocks) more ∙ is.blocks;
       bundles = ap (λ (s : Session). length s.bundles) more ∙ is.bundles;
       count_cables = ap (λ (s : Session). length s.cables) more ∙ is.count_cables;
+      sets = subst (λ (s : Session). All SetsConstant s.sets) (sym more) is.sets;
       leads = subst (λ (s : Session). All LeadsOn s.cables) (sym more) is.leads;
+      heard = subst (λ (s : Session). All IsHeard s.outs) (sym more) is.heard;
+      drawn = subst (λ (s : Session). All IsDrawn s.actions) (sym more) (All-push IsDrawn (session_of ls).actions _ is.drawn drawn);
       count_outs = ap (λ (s : Session). length s.outs) more ∙ is.count_outs;
       count_actions = ap (λ (s : Session). length s.actions) more ∙ length_push (session_of ls).actions _ ∙ ap (λ n. n + 1) is.count_actions;
       in_blocks = ap (λ (s : Session). map block_of s.actions) more ∙ map_push block_of (session_of ls).actions _ ∙ pushed ∙ sym (eighths_more actions);

@@ -1,21 +1,19 @@
 -- What each step of writing adds to a text whose lines break no rule.
 use Rattle.std.proofs.Common.{◌≡◌, ℕ, ◌+◌, ◌%◌, ◌<◌, true, List, [], ◌∷◌, ◌++◌, None, refl, sym, ap, subst, ◌∙◌, arith, append_assoc, mod-lt}
-use Rattle.std.specs.Prelude.{codes, decimal}
+use Rattle.std.specs.Prelude.{Contains, codes, decimal}
 use Rattle.std.specs.Fmt.{digits}
 use Rattle.std.specs.List.{list_all}
-use Rattle.session_script.specs.declared.session.Inst.{Inst}
-use Rattle.session_script.specs.Draft.{draft_of, insts_of}
-use Rattle.session_script.specs.Places.{place}
+use Rattle.session_script.specs.Draft.{draft_of}
 use Rattle.session_script.specs.Line.{Line}
 use Rattle.session_script.specs.Line.Line.{set, cable, out}
 use Rattle.session_script.specs.Rules.{broken_rule}
 use Rattle.session_script.specs.Words.{is_name}
 use Rattle.session_generate.specs.Draws.{next, drawn}
-use Rattle.session_generate.specs.Lines.{Written, fraction, inst_line, value_line, cable_line}
+use Rattle.session_generate.specs.Lines.{inputs_of, Written, fraction, inst_line, value_line, cable_line}
 use Rattle.session_generate.specs.Generated.{WritesEach, settings, outs}
 use Rattle.generated_session.proofs.Fractions.{fraction_value, fraction_fits, fraction_plain}
 use Rattle.generated_session.proofs.Holding.{Holds, holds_more}
-use Rattle.generated_session.proofs.Stages.{IsAt, Goes, head_at, may_follow, name_there, set_more, cable_more, out_more}
+use Rattle.generated_session.proofs.Stages.{IsAt, Goes, head_at, may_follow, name_there, name_place, set_more, cable_more, out_more}
 use Rattle.generated_session.proofs.Tables.{head, head_lines, head_plain, head_says, head_well, name, inst_name}
 use Rattle.generated_session.proofs.Texts.{is_plain, line_text, script_text}
 use Rattle.generated_session.proofs.Unbroken.{set_unbroken, cable_unbroken, out_unbroken}
@@ -41,13 +39,14 @@ head_up seed new written = record {
 
 -- ---- first values
 
-pub value_up : (it : Written) (inst k cables outs actions last : ℕ) → inst < 16 → Goes k 4 → IsUp it.text k cables outs actions last → IsUp (value_line inst it).text 4 cables outs actions last
-value_up it inst k cables outs actions last low goes up =
+pub value_up : (it : Written) (inst k cables outs actions last : ℕ) → inst < 16 → inst % 8 ≡ 0 → Goes k 4 → IsUp it.text k cables outs actions last → IsUp (value_line inst it).text 4 cables outs actions last
+value_up it inst k cables outs actions last low constant goes up =
     let n = drawn (next it.state) in
     let ws = codes "set" ∷ name inst ∷ codes "value" ∷ fraction n ∷ [] in
     let line = set (name inst) (codes "value") (fraction n) in
     let known = inst_name inst low in
     let there = name_there up.ls (name inst) inst k cables outs actions last up.is known in
+    let at_inst = name_place up.ls (name inst) inst k cables outs actions last up.is known in
     let unbroken : broken_rule (draft_of up.ls) line ≡ None =
     set_unbroken up.ls (name inst) (codes "value") (fraction n) (fraction_value n) (may_follow up.ls 4 k cables outs actions last up.is goes) there refl (fraction_fits n) in
     let plain : list_all is_plain ws ≡ true = rw (known.plain, fraction_plain n) refl in
@@ -55,7 +54,8 @@ value_up it inst k cables outs actions last low goes up =
     record {
       ls = up.ls ++ line ∷ [];
       holds = subst (λ t. Holds t (up.ls ++ line ∷ [])) (sym text) (holds_more it.text up.ls ws up.holds plain unbroken);
-      is = set_more up.ls (name inst) (codes "value") (fraction n) k cables outs actions last up.is goes unbroken;
+      is = set_more up.ls (name inst) (codes "value") (fraction n) k cables outs actions last up.is goes
+          (omega (arith, at_inst, low), ap (λ n. n % 8) at_inst ∙ constant, refl) unbroken;
     }
 
 -- ---- cables
@@ -65,17 +65,17 @@ regrouped : (x a b c d e : List ℕ) → x ++ a ++ b ++ c ++ d ++ e ≡ x ++ (a 
 regrouped x a b c d e =
     append_assoc (x ++ a ++ b ++ c) d e ∙ append_assoc (x ++ a ++ b) c (d ++ e) ∙ append_assoc (x ++ a) b (c ++ (d ++ e)) ∙ append_assoc x a (b ++ (c ++ (d ++ e)))
 
-pub cable_up : (it : Written) (inst : ℕ) (symbol : List ℕ) (k cables outs actions last : ℕ) → 0 < inst → inst < 16 → is_plain symbol ≡ true → is_name symbol ≡ true → Goes k 5
+pub cable_up : (it : Written) (inst : ℕ) (symbol : List ℕ) (k cables outs actions last : ℕ) → 0 < inst → inst < 16 → is_plain symbol ≡ true → is_name symbol ≡ true → Contains (inputs_of (inst % 8)) symbol → Goes k 5
     → IsUp it.text k cables outs actions last → IsUp (cable_line inst it symbol).text 5 (cables + 1) outs actions last
-cable_up it inst symbol k cables outs actions last some low symbol_plain symbol_is goes up =
+cable_up it inst symbol k cables outs actions last some low symbol_plain symbol_is input goes up =
     let source = drawn (next it.state) % inst in
     let below : source < inst = mod-lt (drawn (next it.state)) some in
     let ws = codes "cable" ∷ name source ∷ codes "out" ∷ name inst ∷ symbol ∷ [] in
     let line = cable (name source) (codes "out") (name inst) symbol None in
     let from = inst_name source (omega arith) in
     let to = inst_name inst low in
-    let at_source : place (insts_of up.ls) (name source) ≡ source = ap (λ (insts : List Inst). place insts (name source)) up.is.insts ∙ from.is in
-    let at_inst : place (insts_of up.ls) (name inst) ≡ inst = ap (λ (insts : List Inst). place insts (name inst)) up.is.insts ∙ to.is in
+    let at_source = name_place up.ls (name source) source k cables outs actions last up.is from in
+    let at_inst = name_place up.ls (name inst) inst k cables outs actions last up.is to in
     let unbroken : broken_rule (draft_of up.ls) line ≡ None =
     cable_unbroken up.ls (name source) (codes "out") (name inst) symbol (may_follow up.ls 5 k cables outs actions last up.is goes)
     (name_there up.ls (name source) source k cables outs actions last up.is from) refl (name_there up.ls (name inst) inst k cables outs actions last up.is to) symbol_is in
@@ -85,7 +85,8 @@ cable_up it inst symbol k cables outs actions last some low symbol_plain symbol_
     record {
       ls = up.ls ++ line ∷ [];
       holds = subst (λ t. Holds t (up.ls ++ line ∷ [])) (sym text) (holds_more it.text up.ls ws up.holds plain unbroken);
-      is = cable_more up.ls (name source) (codes "out") (name inst) symbol k cables outs actions last up.is goes (omega (arith, below, at_source, at_inst), omega (arith, at_inst, low)) unbroken;
+      is = cable_more up.ls (name source) (codes "out") (name inst) symbol k cables outs actions last up.is goes
+          (omega (arith, below, at_source, at_inst), omega (arith, at_inst, low), refl, subst (λ n. Contains (inputs_of (n % 8)) symbol) (sym at_inst) input) unbroken;
     }
 
 -- ---- outs
@@ -96,12 +97,13 @@ out_up text inst k cables outs actions last low goes up =
     let ws = codes "out" ∷ name inst ∷ codes "out" ∷ [] in
     let line = out (name inst) (codes "out") in
     let known = inst_name inst low in
+    let at_inst = name_place up.ls (name inst) inst k cables outs actions last up.is known in
     let unbroken : broken_rule (draft_of up.ls) line ≡ None =
     out_unbroken up.ls (name inst) (codes "out") (may_follow up.ls 6 k cables outs actions last up.is goes) (name_there up.ls (name inst) inst k cables outs actions last up.is known) refl in
     record {
       ls = up.ls ++ line ∷ [];
       holds = holds_more text up.ls ws up.holds (rw known.plain refl) unbroken;
-      is = out_more up.ls (name inst) (codes "out") k cables outs actions last up.is goes unbroken;
+      is = out_more up.ls (name inst) (codes "out") k cables outs actions last up.is goes (omega (arith, at_inst, low), refl) unbroken;
     }
 
 pub outs_up : (it : Written) (k cables actions last : ℕ) → Goes k 6 → IsUp it.text k cables 0 actions last → IsUp (outs it).text 6 cables 2 actions last

@@ -4,7 +4,8 @@ use Rattle.std.specs.Prelude.{codes, decimal, ◌==◌}
 use Rattle.std.specs.Fmt.{digits}
 use Rattle.std.specs.List.{list_all, range_with_len}
 use Rattle.std.proofs.lemmas.Bool.{and_from}
-use Rattle.session_script.specs.Draft.{draft_of}
+use Rattle.session_script.specs.Draft.{deed_of, draft_of, insts_of}
+use Rattle.session_script.specs.Places.{place}
 use Rattle.session_script.specs.Line.{Line, Act, line_of}
 use Rattle.session_script.specs.Line.Act.{set_value, patch_set, patch_get, save}
 use Rattle.session_script.specs.Line.Line.{at}
@@ -12,9 +13,10 @@ use Rattle.session_script.specs.Rules.{broken_rule}
 use Rattle.session_generate.specs.Draws.{next, drawn}
 use Rattle.session_generate.specs.Lines.{Written, write, after_draw, fraction, drawn_value, cable_line, cable_lines, action_by, action_line}
 use Rattle.session_generate.specs.Generated.{WritesEach}
+use Rattle.generated_session.specs.Shape.{IsDoneTo}
 use Rattle.generated_session.proofs.Fractions.{fraction_value, fraction_fits, fraction_plain}
 use Rattle.generated_session.proofs.Holding.{Holds, holds_more}
-use Rattle.generated_session.proofs.Stages.{Goes, may_follow, name_there, in_turn, at_more}
+use Rattle.generated_session.proofs.Stages.{Goes, may_follow, name_there, name_place, in_turn, at_more}
 use Rattle.generated_session.proofs.Steps.{IsUp, cable_up}
 use Rattle.generated_session.proofs.Tables.{name, inst_name, block_word}
 use Rattle.generated_session.proofs.Texts.{is_plain, line_text}
@@ -36,14 +38,14 @@ cables_up it new written up =
     let f = cable_line 10 e (codes "a") in
     let g = cable_line 10 f (codes "b") in
     let h = cable_line 11 g (codes "in") in
-    let up_a = cable_up it 1 (codes "in") 4 0 0 0 0 (omega arith) (omega arith) refl refl (record { begun = refl; timely = refl; low = refl }) up in
-    let up_b = cable_up a 2 (codes "a") 5 1 0 0 0 (omega arith) (omega arith) refl refl goes_on up_a in
-    let up_c = cable_up b 2 (codes "b") 5 2 0 0 0 (omega arith) (omega arith) refl refl goes_on up_b in
-    let up_d = cable_up c 3 (codes "in") 5 3 0 0 0 (omega arith) (omega arith) refl refl goes_on up_c in
-    let up_e = cable_up d 9 (codes "in") 5 4 0 0 0 (omega arith) (omega arith) refl refl goes_on up_d in
-    let up_f = cable_up e 10 (codes "a") 5 5 0 0 0 (omega arith) (omega arith) refl refl goes_on up_e in
-    let up_g = cable_up f 10 (codes "b") 5 6 0 0 0 (omega arith) (omega arith) refl refl goes_on up_f in
-    let up_h = cable_up g 11 (codes "in") 5 7 0 0 0 (omega arith) (omega arith) refl refl goes_on up_g in
+    let up_a = cable_up it 1 (codes "in") 4 0 0 0 0 (omega arith) (omega arith) refl refl (0, omega arith, refl) (record { begun = refl; timely = refl; low = refl }) up in
+    let up_b = cable_up a 2 (codes "a") 5 1 0 0 0 (omega arith) (omega arith) refl refl (0, omega arith, refl) goes_on up_a in
+    let up_c = cable_up b 2 (codes "b") 5 2 0 0 0 (omega arith) (omega arith) refl refl (1, omega arith, refl) goes_on up_b in
+    let up_d = cable_up c 3 (codes "in") 5 3 0 0 0 (omega arith) (omega arith) refl refl (0, omega arith, refl) goes_on up_c in
+    let up_e = cable_up d 9 (codes "in") 5 4 0 0 0 (omega arith) (omega arith) refl refl (0, omega arith, refl) goes_on up_d in
+    let up_f = cable_up e 10 (codes "a") 5 5 0 0 0 (omega arith) (omega arith) refl refl (0, omega arith, refl) goes_on up_e in
+    let up_g = cable_up f 10 (codes "b") 5 6 0 0 0 (omega arith) (omega arith) refl refl (1, omega arith, refl) goes_on up_f in
+    let up_h = cable_up g 11 (codes "in") 5 7 0 0 0 (omega arith) (omega arith) refl refl (0, omega arith, refl) goes_on up_g in
     subst (λ (w : Written). IsUp w.text 5 8 0 0 0) (sym written.each) up_h
 
 -- ---- an action
@@ -60,9 +62,9 @@ record IsDue (text : List ℕ) (cables outs actions : ℕ) : Type 0 where
 -- a line that is added to it
 added_up : (text : List ℕ) (cables outs actions : ℕ) (due : IsDue text cables outs actions) (word : List ℕ) (act : Act) (verb : List ℕ) (rest : List (List ℕ))
     → line_of (codes "at" ∷ decimal (8 * actions) ∷ verb ∷ rest) ≡ at (decimal (8 * actions)) word act → list_all is_plain (verb ∷ rest) ≡ true
-    → broken_rule (draft_of due.up.ls) (at (decimal (8 * actions)) word act) ≡ None
+    → IsDoneTo (place (insts_of due.up.ls) word) (deed_of act) → broken_rule (draft_of due.up.ls) (at (decimal (8 * actions)) word act) ≡ None
     → IsUp (text ++ (codes "at " ++ decimal (8 * actions)) ++ 32 ∷ line_text (verb ∷ rest)) 7 cables outs (actions + 1) (8 * actions)
-added_up text cables outs actions due word act verb rest says plain unbroken =
+added_up text cables outs actions due word act verb rest says plain drawn unbroken =
     let up = due.up in
     let block = decimal (8 * actions) in
     let known = block_word actions due.within in
@@ -75,7 +77,7 @@ added_up text cables outs actions due word act verb rest says plain unbroken =
     record {
       ls = up.ls ++ line ∷ [];
       holds = subst₂ Holds same lines (holds_more text up.ls ws up.holds all here);
-      is = at_more up.ls block word act due.section cables outs actions due.last up.is due.goes known.value unbroken;
+      is = at_more up.ls block word act due.section cables outs actions due.last up.is due.goes known.value drawn unbroken;
     }
 
 follows : (text : List ℕ) (cables outs actions : ℕ) (due : IsDue text cables outs actions) → MayFollow due.up.ls 7
@@ -89,6 +91,9 @@ turn text cables outs actions due =
 there : (text : List ℕ) (cables outs actions : ℕ) (due : IsDue text cables outs actions) (inst : ℕ) → inst < 16 → IsThere due.up.ls (name inst)
 there text cables outs actions due inst low = name_there due.up.ls (name inst) inst due.section cables outs actions due.last due.up.is (inst_name inst low)
 
+at_place : (text : List ℕ) (cables outs actions : ℕ) (due : IsDue text cables outs actions) (inst : ℕ) → inst < 16 → place (insts_of due.up.ls) (name inst) ≡ inst
+at_place text cables outs actions due inst low = name_place due.up.ls (name inst) inst due.section cables outs actions due.last due.up.is (inst_name inst low)
+
 -- the text of the beginning of an action's line
 abbrev begun : List ℕ → ℕ → List ℕ
 begun text actions = text ++ (codes "at " ++ decimal (8 * actions))
@@ -98,7 +103,8 @@ unfolding digits
 set_up text cables outs actions n due =
     let unbroken = set_at_unbroken due.up.ls (decimal (8 * actions)) (name 0) (codes "value") (fraction n) (fraction_value n) (follows text cables outs actions due)
     (turn text cables outs actions due) (there text cables outs actions due 0 (omega arith)) refl (fraction_fits n) in
-    added_up text cables outs actions due (name 0) (set_value (codes "value") (fraction n)) (codes "set") (name 0 ∷ codes "value" ∷ fraction n ∷ []) refl (rw (fraction_plain n) refl) unbroken
+    added_up text cables outs actions due (name 0) (set_value (codes "value") (fraction n)) (codes "set") (name 0 ∷ codes "value" ∷ fraction n ∷ []) refl (rw (fraction_plain n) refl)
+    (at_place text cables outs actions due 0 (omega arith), refl) unbroken
 
 patch_up : (text : List ℕ) (cables outs actions n : ℕ) → IsDue text cables outs actions
     → IsUp (begun text actions ++ (codes " patch-set n7 urn:lv2fx:level fixed " ++ fraction n ++ codes "\n")) 7 cables outs (actions + 1) (8 * actions)
@@ -107,21 +113,21 @@ patch_up text cables outs actions n due =
     let unbroken = patch_at_unbroken due.up.ls (decimal (8 * actions)) (name 7) (fraction n) (fraction_value n) (follows text cables outs actions due)
     (turn text cables outs actions due) (there text cables outs actions due 7 (omega arith)) (fraction_fits n) in
     added_up text cables outs actions due (name 7) (patch_set (codes "urn:lv2fx:level") (codes "fixed") (fraction n)) (codes "patch-set")
-    (name 7 ∷ codes "urn:lv2fx:level" ∷ codes "fixed" ∷ fraction n ∷ []) refl (rw (fraction_plain n) refl) unbroken
+    (name 7 ∷ codes "urn:lv2fx:level" ∷ codes "fixed" ∷ fraction n ∷ []) refl (rw (fraction_plain n) refl) (at_place text cables outs actions due 7 (omega arith), refl) unbroken
 
 save_up : (text : List ℕ) (cables outs actions : ℕ) → IsDue text cables outs actions → IsUp (begun text actions ++ codes " save n15\n") 7 cables outs (actions + 1) (8 * actions)
 unfolding digits
 save_up text cables outs actions due =
     let unbroken = save_at_unbroken due.up.ls (decimal (8 * actions)) (name 15) (follows text cables outs actions due)
     (turn text cables outs actions due) (there text cables outs actions due 15 (omega arith)) in
-    added_up text cables outs actions due (name 15) save (codes "save") (name 15 ∷ []) refl refl unbroken
+    added_up text cables outs actions due (name 15) save (codes "save") (name 15 ∷ []) refl refl (at_place text cables outs actions due 15 (omega arith)) unbroken
 
 get_up : (text : List ℕ) (cables outs actions : ℕ) → IsDue text cables outs actions → IsUp (begun text actions ++ codes " patch-get n7\n") 7 cables outs (actions + 1) (8 * actions)
 unfolding digits
 get_up text cables outs actions due =
     let unbroken = get_at_unbroken due.up.ls (decimal (8 * actions)) (name 7) (follows text cables outs actions due)
     (turn text cables outs actions due) (there text cables outs actions due 7 (omega arith)) in
-    added_up text cables outs actions due (name 7) (patch_get None) (codes "patch-get") (name 7 ∷ []) refl refl unbroken
+    added_up text cables outs actions due (name 7) (patch_get None) (codes "patch-get") (name 7 ∷ []) refl refl (at_place text cables outs actions due 7 (omega arith), refl) unbroken
 
 -- whichever is drawn
 either : (P : Written → Type 0) (test : Bool) (a b : Written) → P a → P b → P (cond test a b)

@@ -34,8 +34,8 @@ none_passed s bundles insts cables outs actions block blocks =
 
 first_up : (it : Written) → IsUp it.text 3 0 0 0 0 → IsUp (first_values it).text 4 0 0 0 0
 first_up it up =
-    value_up (value_line 0 it) 8 4 0 0 0 0 (omega arith) (record { begun = refl; timely = refl; low = refl })
-    (value_up it 0 3 0 0 0 0 (omega arith) (record { begun = refl; timely = refl; low = refl }) up)
+    value_up (value_line 0 it) 8 4 0 0 0 0 (omega arith) refl (record { begun = refl; timely = refl; low = refl })
+    (value_up it 0 3 0 0 0 0 (omega arith) refl (record { begun = refl; timely = refl; low = refl }) up)
 
 all_up : (seed : ℕ) (text : List ℕ) → IsGenerated seed text → IsActed text 8 2 64
 all_up seed text is =
@@ -54,9 +54,12 @@ is_session seed text generated =
       block = is.block;
       blocks = is.blocks;
       insts = ap (map uri_of) is.insts ∙ plugins;
-      cables = is.count_cables;
-      leads = is.leads;
-      outs = is.count_outs;
-      actions = is.in_blocks;
+      sets = is.sets;
+      count_cables = is.count_cables;
+      cables = is.leads;
+      count_outs = is.count_outs;
+      outs = is.heard;
+      in_blocks = is.in_blocks;
+      actions = is.drawn;
     } in
     (session_of ls, session_held text ls acted.up.holds (begun_by ls acted.section 7 8 2 64 acted.last is acted.goes) (none_passed (session_of ls) is.bundles (ap length is.insts ∙ many_insts) is.count_cables is.count_outs is.count_actions is.block is.blocks), shape)
