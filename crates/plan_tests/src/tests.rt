@@ -1,2 +1,3 @@
+mod generated;
 mod loading;
 mod scripts;

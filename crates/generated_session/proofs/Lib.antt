@@ -1,0 +1,11 @@
+pub mod Counted
+pub mod Fractions
+pub mod Holding
+pub mod Lengths
+pub mod Stages
+pub mod Steps
+pub mod Tables
+pub mod Texts
+pub mod Turns
+pub mod Unbroken
+pub mod Whole
