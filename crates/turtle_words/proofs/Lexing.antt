@@ -1,10 +1,10 @@
 -- A text that is written word by word falls into the tokens of its words.
-use Rattle.std.proofs.Common.{◌≡◌, ℕ, ◌+◌, Bool, true, false, not, ◌&&◌, ◌||◌, ◌==◌, List, [], ◌∷◌, ◌++◌, length, take, drop, refl, sym, ap, ◌∙◌, subst, arith, append-nil, append_assoc, length-append}
+use Rattle.std.proofs.Common.{IsUtf8, ◌≡◌, ℕ, ◌+◌, Bool, true, false, not, ◌&&◌, ◌||◌, ◌==◌, List, [], ◌∷◌, ◌++◌, length, take, drop, refl, sym, ap, ◌∙◌, subst, arith, append-nil, append_assoc, length-append}
 use Rattle.std.specs.Prelude.{encode_utf8_all}
 use Rattle.std.proofs.lemmas.List.{take_at, drop_at, drop_all}
-use Rattle.std.proofs.lemmas.Str.{chars-append, encodes-chars}
+use Rattle.std.proofs.lemmas.Str.{chars-append, encodes-chars, IsUtf8-append, IsUtf8-from_is_utf8}
 use Rattle.std.specs.List.{AllByRecursion}
-use Rattle.std.specs.Str.{chars}
+use Rattle.std.specs.Str.{chars, is_utf8}
 use Rattle.turtle_grammar.specs.Characters.{is_white}
 use Rattle.turtle_grammar.specs.Pattern.{is_empty, after}
 use Rattle.turtle_grammar.specs.Terminals.{gap}
@@ -119,3 +119,19 @@ lexes bytes before (word ∷ words) more at whole there is spaced =
 
 pub falls_into_words : FallsIntoWords
 falls_into_words before words more is spaced = lexes (before ++ written words more) before words more (length before) refl refl is spaced
+
+-- ---- the text is UTF-8
+
+white_utf8 : (g : List ℕ) → are_white g ≡ true → IsUtf8 g
+unfolding is_utf8 chars encode
+white_utf8 [] h = IsUtf8-from_is_utf8 [] refl
+white_utf8 (c ∷ g) h =
+    let k = and_true (is_white c) (are_white g) h in
+    IsUtf8-append (c ∷ []) g
+    (white_is (λ c. IsUtf8 (c ∷ [])) (IsUtf8-from_is_utf8 (32 ∷ []) refl) (IsUtf8-from_is_utf8 (9 ∷ []) refl) (IsUtf8-from_is_utf8 (13 ∷ []) refl) (IsUtf8-from_is_utf8 (10 ∷ []) refl) c k.0)
+    (white_utf8 g k.1)
+
+pub written_utf8 : (words : List Word) (more : List ℕ) → AllByRecursion IsWord words → are_white more ≡ true → IsUtf8 (written words more)
+written_utf8 [] more is white = white_utf8 more white
+written_utf8 (word ∷ words) more is white =
+    IsUtf8-append word.space (word.text ++ written words more) (white_utf8 word.space is.0.white) (IsUtf8-append word.text (written words more) is.0.is_token.utf8 (written_utf8 words more is.1 white))

@@ -67,8 +67,14 @@ no_character class low (c ∷ cs) h = by (class c) refl (no_character class low 
         let first : list_any class (c ∷ encode_utf8_all cs) ≡ false = sym (ap (λ l. list_any class (l ++ encode_utf8_all cs)) (encode_ascii c (low c e))) ∙ h in
         absurd (true≢false (sym (ap (λ v. v || list_any class (encode_utf8_all cs)) e) ∙ first))
 
-pub no_character_of : (class : ℕ → Bool) → IsLow class → (text : List ℕ) → IsUtf8 text → list_any class text ≡ false → list_any class (chars text) ≡ false
+no_character_of : (class : ℕ → Bool) → IsLow class → (text : List ℕ) → IsUtf8 text → list_any class text ≡ false → list_any class (chars text) ≡ false
 no_character_of class low text utf8 h = no_character class low (chars text) (ap (list_any class) (encodes-chars text utf8) ∙ h)
+
+pub no_excluded : (text : List ℕ) → IsUtf8 text → list_any is_excluded text ≡ false → list_any is_excluded (chars text) ≡ false
+no_excluded text = no_character_of is_excluded excluded_low text
+
+pub no_ending : (text : List ℕ) → IsUtf8 text → list_any ends_string text ≡ false → list_any ends_string (chars text) ≡ false
+no_ending text = no_character_of ends_string (among_low (34 ∷ 92 ∷ 10 ∷ 13 ∷ []) refl) text
 
 -- ---- between two marks
 
@@ -111,7 +117,7 @@ iris_are_tokens text utf8 none =
     record {
       utf8 = between_utf8 60 62 text less_mark greater_mark utf8;
       begins = ap begins_token own;
-      found = found_as Iri (60 ∷ (text ++ 62 ∷ [])) (60 ∷ (chars text ++ 62 ∷ [])) own (λ rest white. found_iri (chars text) rest (no_character_of is_excluded excluded_low text utf8 none));
+      found = found_as Iri (60 ∷ (text ++ 62 ∷ [])) (60 ∷ (chars text ++ 62 ∷ [])) own (λ rest white. found_iri (chars text) rest (no_excluded text utf8 none));
     }
 
 pub strings_are_tokens : StringsAreTokens
@@ -121,7 +127,7 @@ strings_are_tokens text utf8 none =
     record {
       utf8 = between_utf8 34 34 text quote_mark quote_mark utf8;
       begins = ap begins_token own;
-      found = found_as String (34 ∷ (text ++ 34 ∷ [])) (34 ∷ (chars text ++ 34 ∷ [])) own (λ rest white. found_string (chars text) rest (no_character_of ends_string (among_low (34 ∷ 92 ∷ 10 ∷ 13 ∷ []) refl) text utf8 none) white);
+      found = found_as String (34 ∷ (text ++ 34 ∷ [])) (34 ∷ (chars text ++ 34 ∷ [])) own (λ rest white. found_string (chars text) rest (no_ending text utf8 none) white);
     }
 
 -- a text that nothing opens

@@ -1,0 +1,17 @@
+pub mod Vocabulary
+pub mod Words
+pub mod Text
+pub mod Tree
+pub mod Values
+pub mod Rows
+pub mod Order
+pub mod Stored
+pub mod Encoded
+pub mod Ready
+pub mod Meant
+pub mod Said
+pub mod Filed
+pub mod Lines
+pub mod Back
+pub mod Again
+pub mod RoundTrip
