@@ -1,34 +1,34 @@
 -- A state file's triples keep all rules, and say the states that were written.
-use Rattle.std.proofs.Common.{◌≡◌, ◌⊎◌, inl, inr, ℕ, zero, suc, ◌+◌, ◌^◌, ◌<◌, ◌≤◌, nat_le, Bool, true, false, not, cond, ◌&&◌, ◌||◌, List, [], ◌∷◌, ◌++◌, length, map, filter, Option, None, Some, is_some, unwrap_or, IsTrue, refl, sym, ap, ◌∙◌, subst, true≢false, arith}
+use Rattle.std.proofs.Common.{◌≡◌, ℕ, suc, ◌+◌, ◌^◌, ◌<◌, nat_le, Bool, true, false, not, cond, ◌&&◌, List, [], ◌∷◌, ◌++◌, length, map, filter, Option, None, Some, is_some, unwrap_or, IsTrue, refl, sym, ap, ◌∙◌, subst, arith}
+use Rattle.std.proofs.lemmas.Bool.{and_from}
 use Rattle.std.specs.Prelude.{option_and_then}
 use Rattle.std.proofs.lemmas.List.{map-append}
 use Rattle.std.proofs.lemmas.List.Elements.{filter-append}
 use Rattle.std.specs.List.{AllByRecursion, list_all}
-use Rattle.state_file.specs.Objects.{names, text_in, iri_in}
+use Rattle.state_file.specs.Objects.{text_in, iri_in}
 use Rattle.state_file.specs.Reading.{stored, saved_of, saves_of}
 use Rattle.state_file.specs.Rules.{is_property, each_once, are_properties, is_shaped, has_flags, has_bytes, size_of, are_few, has_few, first_broken, uris_of, uris_for, uris_in}
 use Rattle.state_file.specs.States.{is_saved, states_in, name_in, uri_in, node_in, about, properties_in, flags_in, bytes_in}
 use Rattle.state_file.specs.declared.fault.StateFault.{StateFault}
 use Rattle.state_file.specs.declared.objects.Kind.TheVariants.{OneIri, OneLiteral, OneNode}
 use Rattle.state_file.specs.declared.saved.Saved.{Saved}
-use Rattle.state_store.specs.Properties.{fit, bytes_in as bytes_held}
 use Rattle.state_store.specs.declared.prop.Prop.{Prop}
 use Rattle.state_store.specs.declared.status.TheConstants.{MOST_PROPERTIES, MOST_BYTES}
 use Rattle.triple_store.specs.declared.term.Term.{Term}
-use Rattle.triple_store.specs.declared.term.Term.TheVariants.{Iri, Blank, Literal}
+use Rattle.triple_store.specs.declared.term.Term.TheVariants.{Iri, Blank}
 use Rattle.triple_store.specs.declared.term.Triple.{Triple}
 use Rattle.urid_map.specs.Numbers.{AreNumbered, holds, with_uris}
 use Rattle.vocabulary.specs.Words.{iri_of}
-use Rattle.vocabulary.specs.declared.word.Word.TheVariants.{StateState, FxSaved, FxName, FxPlugin}
+use Rattle.vocabulary.specs.declared.word.Word.TheVariants.{StateState, FxName, FxPlugin}
 use Rattle.state_round.specs.RoundTrip.{IsWritable, IsSaved, AreSaved, SaysAgain}
-use Rattle.state_round.proofs.Words.{in_file, row_uri}
+use Rattle.state_round.proofs.Words.{in_file}
 use Rattle.state_round.proofs.Values.{subject_iri}
 use Rattle.state_round.proofs.Order.{rise_from, all_in_file, length_in_file, all_joined}
-use Rattle.state_round.proofs.Stored.{kept, kept_in_file, bytes_in_file, once_in_file}
+use Rattle.state_round.proofs.Stored.{kept_in_file, bytes_in_file, once_in_file}
 use Rattle.state_round.proofs.Rows.{properties_rows, blanks_after, head_rows, node_row, saved_rows, subject_of, states_rows, own}
 use Rattle.state_round.proofs.Ready.{IsListed, listed_rows}
 use Rattle.state_round.proofs.Said.{few}
-use Rattle.state_round.proofs.Lines.{key_rows, AreValues, IsSaid, AreSaid, all_said}
+use Rattle.state_round.proofs.Lines.{key_rows, IsSaid, AreSaid, all_said}
 use Rattle.state_round.proofs.Back.{one_found, AreRead, are_read, properties_are, flags_are_read, bytes_are_read, size_is, length_is, once_is, stored_is, AreHeld, uris_held, with_held}
 
 -- ---- one state
@@ -62,20 +62,16 @@ record IsGood (rows : List Triple) (urids : List (List ℕ)) (subject : Term) (s
   same : saved_of rows urids subject ≡ saved
   held : AreHeld urids (uris_of rows (properties_in rows subject))
 
-both : (a b : Bool) → a ≡ true → b ≡ true → a && b ≡ true
-both true b e f = f
-both false b e f = cc
-
 shaped_is : (rows : List Triple) (base : List ℕ) (urids : List (List ℕ)) (number b : ℕ) (saved : Saved) → AreNumbered urids → IsSaved urids saved → IsSaid rows base urids number b saved
     → AreRead rows urids b (suc b) (in_file urids saved.props) → is_shaped rows (subject_of base number) ≡ true
 unfolding is_shaped
 shaped_is rows base urids number b saved numbered is said read =
-    both ((is_some (name_in rows (subject_of base number)) && is_some (uri_in rows (subject_of base number))) && is_some (node_in rows (subject_of base number))) (are_properties rows (properties_in rows (subject_of base number)))
-    (both (is_some (name_in rows (subject_of base number)) && is_some (uri_in rows (subject_of base number))) (is_some (node_in rows (subject_of base number)))
-    (both (is_some (name_in rows (subject_of base number))) (is_some (uri_in rows (subject_of base number))) (ap is_some (name_found rows (subject_of base number) b saved said.head)) (ap is_some (uri_found rows (subject_of base number) b saved said.head)))
+    and_from ((is_some (name_in rows (subject_of base number)) && is_some (uri_in rows (subject_of base number))) && is_some (node_in rows (subject_of base number))) (are_properties rows (properties_in rows (subject_of base number)))
+    (and_from (is_some (name_in rows (subject_of base number)) && is_some (uri_in rows (subject_of base number))) (is_some (node_in rows (subject_of base number)))
+    (and_from (is_some (name_in rows (subject_of base number))) (is_some (uri_in rows (subject_of base number))) (ap is_some (name_found rows (subject_of base number) b saved said.head)) (ap is_some (uri_found rows (subject_of base number) b saved said.head)))
     (ap is_some (node_found rows (subject_of base number) b saved said.head)))
     (ap (are_properties rows) (properties_found rows (subject_of base number) b urids saved said.head said.node)
-    ∙ both (list_all (is_property rows) (key_rows b (suc b) urids (in_file urids saved.props))) (each_once (map (λ (property : Triple). property.p) (key_rows b (suc b) urids (in_file urids saved.props))))
+    ∙ and_from (list_all (is_property rows) (key_rows b (suc b) urids (in_file urids saved.props))) (each_once (map (λ (property : Triple). property.p) (key_rows b (suc b) urids (in_file urids saved.props))))
     (properties_are rows urids b (suc b) (in_file urids saved.props) read)
     (once_is urids b (suc b) (in_file urids saved.props) numbered (all_in_file (IsWritable urids) urids saved.props is.rows) (once_in_file urids saved.props (rise_from saved.props is.storable.rising))))
 
@@ -125,7 +121,7 @@ one_good rows base urids number b saved numbered is said =
       few = few_good rows base urids number b saved is said read;
       same = same_good rows base urids number b saved numbered is said read;
       held = subst (λ (properties : List Triple). AreHeld urids (uris_of rows properties)) (sym (properties_found rows (subject_of base number) b urids saved said.head said.node))
-      (uris_held rows urids b (suc b) (in_file urids saved.props) numbered (all_in_file (IsWritable urids) urids saved.props is.rows) read);
+          (uris_held rows urids b (suc b) (in_file urids saved.props) numbered (all_in_file (IsWritable urids) urids saved.props is.rows) read);
     }
 
 -- ---- all states
@@ -152,7 +148,6 @@ block_class iri b urids saved =
 states_found : (base : List ℕ) (number b : ℕ) (urids : List (List ℕ)) (saves : List Saved) → states_in (states_rows base number b urids saves) ≡ subjects base number saves
 states_found base number b urids [] = refl
 states_found base number b urids (saved ∷ saves) =
-    let rest : List Triple = states_rows base (number + 1) (blanks_after (suc b) (in_file urids saved.props)) urids saves in
     ap (map (λ (row : Triple). row.s)) (filter-append is_saved (saved_rows (subject_of base number) b urids saved) (states_rows base (number + 1) (blanks_after (suc b) (in_file urids saved.props)) urids saves))
     ∙ map-append (λ (row : Triple). row.s) (filter is_saved (saved_rows (subject_of base number) b urids saved)) (filter is_saved (states_rows base (number + 1) (blanks_after (suc b) (in_file urids saved.props)) urids saves))
     ∙ ap (λ l. l ++ states_in (states_rows base (number + 1) (blanks_after (suc b) (in_file urids saved.props)) urids saves)) (block_class (subject_iri base number) b urids saved)
@@ -171,7 +166,7 @@ each_passes : (rows : List Triple) (urids : List (List ℕ)) (base : List ℕ) (
     → AreGood rows urids base number saves → list_all test (subjects base number saves) ≡ true
 each_passes rows urids base test passes number [] good = refl
 each_passes rows urids base test passes number (saved ∷ saves) good =
-    both (test (subject_of base number)) (list_all test (subjects base (number + 1) saves)) (passes (subject_of base number) saved good.0) (each_passes rows urids base test passes (number + 1) saves good.1)
+    and_from (test (subject_of base number)) (list_all test (subjects base (number + 1) saves)) (passes (subject_of base number) saved good.0) (each_passes rows urids base test passes (number + 1) saves good.1)
 
 same_states : (rows : List Triple) (urids : List (List ℕ)) (base : List ℕ) (number : ℕ) (saves : List Saved) → AreGood rows urids base number saves → map (saved_of rows urids) (subjects base number saves) ≡ saves
 same_states rows urids base number [] good = refl

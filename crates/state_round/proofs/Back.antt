@@ -1,5 +1,6 @@
 -- What a state file's triples say of a property, by the rules of reading.
-use Rattle.std.proofs.Common.{◌≡◌, ◌⊎◌, inl, inr, ℕ, zero, suc, ◌+◌, ◌<◌, ◌≤◌, ◌==◌, Bool, true, false, not, cond, ◌&&◌, ◌||◌, List, [], ◌∷◌, ◌++◌, length, map, filter, Option, None, Some, is_some, unwrap_or, IsTrue, refl, sym, ap, ◌∙◌, subst, true≢false, arith}
+use Rattle.std.proofs.Common.{◌≡◌, ℕ, suc, ◌+◌, Bool, true, false, not, cond, ◌&&◌, ◌||◌, List, [], ◌∷◌, ◌++◌, length, map, filter, None, Some, is_some, unwrap_or, IsTrue, refl, sym, ap, ◌∙◌, subst}
+use Rattle.std.proofs.lemmas.Bool.{and_from}
 use Rattle.std.specs.Prelude.{decimal, option_and_then, option_to_list, fold}
 use Rattle.std.specs.Fmt.{digits}
 use Rattle.std.specs.List.{AllByRecursion, list_all, list_any}
@@ -16,14 +17,14 @@ use Rattle.state_file.specs.Rules.{is_property, each_once, size_of, uris_of}
 use Rattle.state_file.specs.States.{key_in, kind_in, flags_term, bytes_term, flags_in, bytes_in}
 use Rattle.state_file.specs.Values.{in_full, flags_of, bytes_of}
 use Rattle.state_file.specs.declared.objects.Kind.{Kind}
-use Rattle.state_file.specs.declared.objects.Kind.TheVariants.{Whichever, OneIri, OneLiteral, OneNode}
+use Rattle.state_file.specs.declared.objects.Kind.TheVariants.{Whichever, OneIri}
 use Rattle.state_store.specs.Properties.{with_property, are_flags, bytes_in as bytes_held}
 use Rattle.state_store.specs.declared.prop.Prop.{Prop}
 use Rattle.triple_store.specs.Triples.{same_term}
 use Rattle.triple_store.specs.declared.term.Term.{Term}
 use Rattle.triple_store.specs.declared.term.Term.TheVariants.{Iri, Blank, Literal}
 use Rattle.triple_store.specs.declared.term.Triple.{Triple}
-use Rattle.urid_map.specs.Numbers.{holds, number_of, with_uri, with_uris, uri_of, AreNumbered}
+use Rattle.urid_map.specs.Numbers.{holds, number_of, with_uri, with_uris, AreNumbered}
 use Rattle.vocabulary.specs.Words.{iri_of}
 use Rattle.vocabulary.specs.declared.word.Word.{Word}
 use Rattle.vocabulary.specs.declared.word.Word.TheVariants.{FxType, FxFlags, FxBytes, XsdInteger, XsdString}
@@ -114,31 +115,27 @@ pub are_read : (rows : List Triple) (urids : List (List ℕ)) (node b : ℕ) (re
 are_read rows urids node b [] values is = tt
 are_read rows urids node b (row ∷ rest) values is = (is_read rows urids node b row values.0 is.0, are_read rows urids node (suc b) rest values.1 is.1)
 
-both : (a b : Bool) → a ≡ true → b ≡ true → a && b ≡ true
-both true b e f = f
-both false b e f = cc
-
 property_is : (rows : List Triple) (urids : List (List ℕ)) (node b : ℕ) (row : ℕ × Prop) → IsRead rows urids node b row → is_property rows (key_row node b urids row) ≡ true
 unfolding is_property
 property_is rows urids node b row is =
-    both (is_some (key_in (key_row node b urids row)) && is_some (kind_in rows (key_row node b urids row))) (is_some (flags_term rows (key_row node b urids row)) && is_some (bytes_term rows (key_row node b urids row)))
-    (both (is_some (key_in (key_row node b urids row))) (is_some (kind_in rows (key_row node b urids row))) (ap is_some is.key) (ap is_some is.kind))
-    (both (is_some (flags_term rows (key_row node b urids row))) (is_some (bytes_term rows (key_row node b urids row))) is.has_flags is.has_bytes)
+    and_from (is_some (key_in (key_row node b urids row)) && is_some (kind_in rows (key_row node b urids row))) (is_some (flags_term rows (key_row node b urids row)) && is_some (bytes_term rows (key_row node b urids row)))
+    (and_from (is_some (key_in (key_row node b urids row))) (is_some (kind_in rows (key_row node b urids row))) (ap is_some is.key) (ap is_some is.kind))
+    (and_from (is_some (flags_term rows (key_row node b urids row))) (is_some (bytes_term rows (key_row node b urids row))) is.has_flags is.has_bytes)
 
 pub properties_are : (rows : List Triple) (urids : List (List ℕ)) (node b : ℕ) (rest : List (ℕ × Prop)) → AreRead rows urids node b rest → list_all (is_property rows) (key_rows node b urids rest) ≡ true
 properties_are rows urids node b [] are = refl
 properties_are rows urids node b (row ∷ rest) are =
-    both (is_property rows (key_row node b urids row)) (list_all (is_property rows) (key_rows node (suc b) urids rest)) (property_is rows urids node b row are.0) (properties_are rows urids node (suc b) rest are.1)
+    and_from (is_property rows (key_row node b urids row)) (list_all (is_property rows) (key_rows node (suc b) urids rest)) (property_is rows urids node b row are.0) (properties_are rows urids node (suc b) rest are.1)
 
 pub flags_are_read : (rows : List Triple) (urids : List (List ℕ)) (node b : ℕ) (rest : List (ℕ × Prop)) → AreRead rows urids node b rest → list_all (λ property. is_some (flags_in rows property)) (key_rows node b urids rest) ≡ true
 flags_are_read rows urids node b [] are = refl
 flags_are_read rows urids node b (row ∷ rest) are =
-    both (is_some (flags_in rows (key_row node b urids row))) (list_all (λ property. is_some (flags_in rows property)) (key_rows node (suc b) urids rest)) (ap is_some are.0.flags) (flags_are_read rows urids node (suc b) rest are.1)
+    and_from (is_some (flags_in rows (key_row node b urids row))) (list_all (λ property. is_some (flags_in rows property)) (key_rows node (suc b) urids rest)) (ap is_some are.0.flags) (flags_are_read rows urids node (suc b) rest are.1)
 
 pub bytes_are_read : (rows : List Triple) (urids : List (List ℕ)) (node b : ℕ) (rest : List (ℕ × Prop)) → AreRead rows urids node b rest → list_all (λ property. is_some (bytes_in rows property)) (key_rows node b urids rest) ≡ true
 bytes_are_read rows urids node b [] are = refl
 bytes_are_read rows urids node b (row ∷ rest) are =
-    both (is_some (bytes_in rows (key_row node b urids row))) (list_all (λ property. is_some (bytes_in rows property)) (key_rows node (suc b) urids rest)) (ap is_some are.0.bytes) (bytes_are_read rows urids node (suc b) rest are.1)
+    and_from (is_some (bytes_in rows (key_row node b urids row))) (list_all (λ property. is_some (bytes_in rows property)) (key_rows node (suc b) urids rest)) (ap is_some are.0.bytes) (bytes_are_read rows urids node (suc b) rest are.1)
 
 pub size_is : (rows : List Triple) (urids : List (List ℕ)) (node b : ℕ) (rest : List (ℕ × Prop)) → AreRead rows urids node b rest → size_of rows (key_rows node b urids rest) ≡ bytes_held rest
 size_is rows urids node b [] are = refl

@@ -1,37 +1,29 @@
 -- Base64 stands between quotes as it is, and says the bytes that it encodes.
-use Rattle.std.proofs.Common.{◌≡◌, ℕ, zero, suc, ◌+◌, ◌<◌, Bool, true, false, cond, ◌&&◌, ◌||◌, ◌==◌, List, [], ◌∷◌, ◌++◌, length, replicate, slice_index, Option, None, Some, rules, Result, Ok, refl, sym, ap, ◌∙◌, arith}
-use Rattle.std.specs.Str.{bytes_eq}
+use Rattle.std.proofs.Common.{◌≡◌, ℕ, zero, suc, Bool, true, false, cond, List, [], ◌∷◌, ◌++◌, length, replicate, slice_index, None, Some, rules, refl, ap, ◌∙◌}
+use Rattle.std.proofs.lemmas.Bool.{or_from, or_parts}
 use Rattle.std.specs.List.{list_any}
 use Rattle.std.proofs.lemmas.Slice.Eq.{bytes_eq-Decides}
 use Rattle.std.proofs.lemmas.Str.{IsUtf8-from_ascii}
 use Rattle.base64.specs.Engines.{standard}
-use Rattle.base64.specs.GeneralPurpose.{encode_of, decode_of, IsBytes}
+use Rattle.base64.specs.GeneralPurpose.{encode_of, IsBytes}
 use Rattle.base64.specs.Rfc4648.{encode_symbols, padding_len}
 use Rattle.base64.proofs.EngineFacts.{IsAscii-encode_of, decode_of-encode_of}
 use Rattle.state_file.specs.Values.{bytes_of, encoded_as}
 use Rattle.turtle_words.specs.Words.{ends_string}
 use Rattle.state_round.specs.RoundTrip.{IsPlain}
 
-neither : (a b : Bool) → a || b ≡ false → (a ≡ false) × (b ≡ false)
-neither true b h = cc
-neither false b h = (refl, h)
-
 one_symbol : (table : List ℕ) → list_any ends_string table ≡ false → (i : ℕ) → ends_string (slice_index table i) ≡ false
 one_symbol [] h i = refl
-one_symbol (c ∷ table) h zero = (neither (ends_string c) (list_any ends_string table) h).0
-one_symbol (c ∷ table) h (suc i) = one_symbol table (neither (ends_string c) (list_any ends_string table) h).1 i
-
-next : (a b : Bool) → a ≡ false → b ≡ false → a || b ≡ false
-next true b e f = cc
-next false b e f = f
+one_symbol (c ∷ table) h zero = (or_parts (ends_string c) (list_any ends_string table) h).0
+one_symbol (c ∷ table) h (suc i) = one_symbol table (or_parts (ends_string c) (list_any ends_string table) h).1 i
 
 symbols : (table bytes : List ℕ) → list_any ends_string table ≡ false → list_any ends_string (encode_symbols table bytes) ≡ false
 unfolding encode_symbols
 symbols table [] h = refl
-symbols table (a ∷ []) h = next _ _ (one_symbol table h _) (next _ _ (one_symbol table h _) refl)
-symbols table (a ∷ b ∷ []) h = next _ _ (one_symbol table h _) (next _ _ (one_symbol table h _) (next _ _ (one_symbol table h _) refl))
+symbols table (a ∷ []) h = or_from _ _ (one_symbol table h _) (or_from _ _ (one_symbol table h _) refl)
+symbols table (a ∷ b ∷ []) h = or_from _ _ (one_symbol table h _) (or_from _ _ (one_symbol table h _) (or_from _ _ (one_symbol table h _) refl))
 symbols table (a ∷ b ∷ c ∷ rest) h =
-    next _ _ (one_symbol table h _) (next _ _ (one_symbol table h _) (next _ _ (one_symbol table h _) (next _ _ (one_symbol table h _) (symbols table rest h))))
+    or_from _ _ (one_symbol table h _) (or_from _ _ (one_symbol table h _) (or_from _ _ (one_symbol table h _) (or_from _ _ (one_symbol table h _) (symbols table rest h))))
 
 padding : (n : ℕ) → list_any ends_string (replicate n 61) ≡ false
 padding zero = refl
@@ -39,7 +31,7 @@ padding (suc n) = padding n
 
 joined : (a b : List ℕ) → list_any ends_string a ≡ false → list_any ends_string b ≡ false → list_any ends_string (a ++ b) ≡ false
 joined [] b h k = k
-joined (c ∷ a) b h k = let p = neither (ends_string c) (list_any ends_string a) h in next (ends_string c) (list_any ends_string (a ++ b)) p.0 (joined a b p.1 k)
+joined (c ∷ a) b h k = let p = or_parts (ends_string c) (list_any ends_string a) h in or_from (ends_string c) (list_any ends_string (a ++ b)) p.0 (joined a b p.1 k)
 
 pub encoded_plain : (bytes : List ℕ) → IsPlain (encode_of standard bytes)
 encoded_plain bytes = record {

@@ -1,5 +1,5 @@
 -- The text of states is a document, and these are its triples.
-use Rattle.std.proofs.Common.{◌≡◌, ℕ, zero, ◌+◌, ◌^◌, ◌<◌, ◌≤◌, List, [], ◌∷◌, ◌++◌, length, codes, refl, sym, ap, ◌∙◌, subst, arith, IsUtf8}
+use Rattle.std.proofs.Common.{◌≡◌, ℕ, ◌^◌, ◌<◌, List, [], ◌∷◌, length, codes, refl, sym, ◌∙◌, subst, arith}
 use Rattle.std.specs.List.{AllByRecursion}
 use Rattle.std.specs.Str.{chars}
 use Rattle.state_file.specs.StateText.{state_text}
@@ -9,13 +9,13 @@ use Rattle.turtle_grammar.specs.Tokens.Answer.{end}
 use Rattle.turtle_document.specs.Answer.{IsReadAs, HasTokens, Means, lexemes_of}
 use Rattle.turtle_document.specs.Answer.Outcome.{document}
 use Rattle.turtle_document.specs.Meaning.{beginning}
-use Rattle.turtle_words.specs.Words.{written, tokens_from, are_white}
+use Rattle.turtle_words.specs.Words.{written, tokens_from}
 use Rattle.turtle_words.proofs.Lexing.{falls_into_words, written_utf8}
 use Rattle.state_round.specs.RoundTrip.{IsSaved, AreSaved}
 use Rattle.state_round.proofs.Words.{file_words}
 use Rattle.state_round.proofs.Order.{Rise, rise_from}
 use Rattle.state_round.proofs.Text.{file_written}
-use Rattle.state_round.proofs.Tree.{Places, places_from, lexemes_are, file_tree, file_put}
+use Rattle.state_round.proofs.Tree.{places_from, lexemes_are, file_tree, file_put}
 use Rattle.state_round.proofs.Rows.{states_rows}
 use Rattle.state_round.proofs.Ready.{IsWhole, file_ready, next_line}
 use Rattle.state_round.proofs.Meant.{state}
@@ -32,21 +32,18 @@ begins_at urids saves = refl
 file_tokens : (urids : List (List ℕ)) (saves : List Saved) → AreSaved urids saves → HasTokens (written (file_words urids saves) (codes "\n")) (tokens_from 0 (file_words urids saves)) end
 file_tokens urids saves are =
     let low : length saves < 2 ^ 64 = let less = few saves in let room = are.room in omega (arith, less, room) in
-    let whole : IsWhole (file_words urids saves) (codes "\n") = file_ready urids saves low are.each in
-    (
+    let whole : IsWhole (file_words urids saves) (codes "\n") = file_ready urids saves low are.each in (
       written_utf8 (file_words urids saves) (codes "\n") whole.tokens next_line.0,
       subst (λ (at : ℕ). Lexes (written (file_words urids saves) (codes "\n")) at (tokens_from 0 (file_words urids saves)) end) (sym (begins_at urids saves)) (falls_into_words [] (file_words urids saves) (codes "\n") whole.tokens whole.spaced),
     )
 
 file_means : (base : List ℕ) (urids : List (List ℕ)) (saves : List Saved) → AreSaved urids saves
     → Means (beginning base []) (lexemes_of (written (file_words urids saves) (codes "\n")) (tokens_from 0 (file_words urids saves))) (state base (last_blank 0 urids saves) (states_rows base 0 0 urids saves))
-file_means base urids saves are =
-    let place : Places = places_from 0 (file_words urids saves) in
-    (
-      file_tree (places_from 0 (file_words urids saves)) urids saves,
-      file_put (places_from 0 (file_words urids saves)) urids saves ∙ sym (lexemes_are (written (file_words urids saves) (codes "\n")) [] (file_words urids saves) (codes "\n") 0 refl refl),
-      file_read (places_from 0 (file_words urids saves)) urids saves base are.each are.room,
-    )
+file_means base urids saves are = (
+  file_tree (places_from 0 (file_words urids saves)) urids saves,
+  file_put (places_from 0 (file_words urids saves)) urids saves ∙ sym (lexemes_are (written (file_words urids saves) (codes "\n")) [] (file_words urids saves) (codes "\n") 0 refl refl),
+  file_read (places_from 0 (file_words urids saves)) urids saves base are.each are.room,
+)
 
 pub file_is_read : (base : List ℕ) (urids : List (List ℕ)) (saves : List Saved) → AreSaved urids saves → IsReadAs (beginning base []) (state_text urids saves) (document (states_rows base 0 0 urids saves))
 file_is_read base urids saves are =

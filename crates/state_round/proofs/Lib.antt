@@ -15,3 +15,5 @@ pub mod Lines
 pub mod Back
 pub mod Again
 pub mod RoundTrip
+pub mod Names
+pub mod Examples

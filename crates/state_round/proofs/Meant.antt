@@ -1,38 +1,34 @@
 -- The meaning of a state file's tree is its triples.
-use Rattle.std.proofs.Common.{◌≡◌, ◌⊎◌, inl, inr, ℕ, zero, suc, ◌+◌, ◌*◌, ◌^◌, ◌<◌, ◌≤◌, nat_le, nat_lt, Bool, true, false, cond, ◌&&◌, ◌||◌, List, [], ◌∷◌, ◌++◌, length, codes, Option, None, Some, unwrap_or, Result, Ok, Err, refl, sym, ap, ◌∙◌, subst, true≢false, arith, append_assoc, append-nil, length-append, leb-true}
+use Rattle.std.proofs.Common.{◌≡◌, ℕ, suc, ◌+◌, ◌*◌, ◌<◌, ◌≤◌, nat_le, Bool, true, false, cond, ◌&&◌, ◌||◌, List, [], ◌∷◌, ◌++◌, length, codes, None, Result, Ok, refl, sym, ap, ◌∙◌, arith, append_assoc, append-nil, length-append, leb-true}
 use Rattle.std.specs.Prelude.{decimal}
 use Rattle.std.specs.List.{list_any, AllByRecursion}
 use Rattle.std.specs.Str.{chars}
 use Rattle.base64.specs.Engines.{standard}
 use Rattle.base64.specs.GeneralPurpose.{encode_of}
-use Rattle.state_file.specs.Order.{uri_text}
-use Rattle.state_file.specs.declared.saved.Saved.{Saved}
 use Rattle.state_store.specs.declared.prop.Prop.{Prop}
 use Rattle.triple_store.specs.Triples.{same_term}
 use Rattle.triple_store.specs.declared.fault.TheConstants.{MOST_ROWS}
 use Rattle.triple_store.specs.declared.term.Term.{Term}
 use Rattle.triple_store.specs.declared.term.Term.TheVariants.{Iri, Blank, Literal}
 use Rattle.triple_store.specs.declared.term.Triple.{Triple}
-use Rattle.turtle_grammar.specs.Characters.{is_excluded}
-use Rattle.turtle_grammar.specs.Tree.{Verb, Object, Predicates, More, Statement, Document}
+use Rattle.turtle_grammar.specs.Tree.{Verb, Object, More}
 use Rattle.turtle_grammar.specs.Tree.Name.{full, prefixed}
 use Rattle.turtle_grammar.specs.Tree.Quoting.{double}
 use Rattle.turtle_grammar.specs.Tree.Suffix.{nothing}
-use Rattle.turtle_grammar.specs.Tree.Verb.{predicate, is_a}
-use Rattle.turtle_grammar.specs.Tree.Object.{named, quoted, short, properties, anonymous}
+use Rattle.turtle_grammar.specs.Tree.Verb.{predicate}
+use Rattle.turtle_grammar.specs.Tree.Object.{named, quoted}
 use Rattle.turtle_grammar.specs.Tree.Predicates.{predicates}
 use Rattle.turtle_grammar.specs.Tree.Objects.{one}
 use Rattle.turtle_grammar.specs.Tree.More.{done, next}
-use Rattle.turtle_document.specs.Meaning.{Fault, State, Read, ◌>>=◌, read, bound, is_row, add, name_of, absolute, verb_of, object_of, object_end, predicates_of, objects_of, more_of, triples_of, statement_of, document_of, beginning}
-use Rattle.urid_map.specs.Numbers.{uri_of}
+use Rattle.turtle_document.specs.Meaning.{Fault, State, ◌>>=◌, read, bound, is_row, add, absolute, verb_of, object_of, object_end, predicates_of, objects_of, more_of}
 use Rattle.vocabulary.specs.Words.{iri_of}
-use Rattle.vocabulary.specs.declared.word.Word.TheVariants.{RdfType, StateState, FxSaved, FxName, FxPlugin, FxType, FxFlags, FxBytes, XsdInteger, XsdString}
-use Rattle.state_round.specs.RoundTrip.{IsPlain, IsSelf, IsNumber, IsWritable}
+use Rattle.vocabulary.specs.declared.word.Word.TheVariants.{FxType, FxFlags, FxBytes, XsdInteger, XsdString}
+use Rattle.state_round.specs.RoundTrip.{IsPlain, IsSelf, IsWritable}
 use Rattle.state_round.proofs.Words.{angle, quote, row_uri, kind_uri, state_namespace, fx_namespace}
 use Rattle.state_round.proofs.Tree.{Places, shift, leaf, bytes_object, bytes_tree, flags_object, flags_tree, type_object, type_tree, value_tree, more_tree, properties_tree, node_tree}
 use Rattle.state_round.proofs.Values.{absolute_self, string_is, self_of}
 use Rattle.state_round.proofs.Encoded.{encoded_plain}
-use Rattle.state_round.proofs.Rows.{triple, term_of, type_row, flags_row, bytes_row, value_rows, key_row, property_rows, properties_rows, blanks_after, own, own_push, own_past, own_both, own-append, own-next, own-first, own_value, value_other, says, no_row, blank_other}
+use Rattle.state_round.proofs.Rows.{term_of, type_row, flags_row, bytes_row, value_rows, key_row, property_rows, properties_rows, blanks_after, own, own_push, own_both, own-next, own-first, value_other, says, no_row, blank_other}
 use lib.Utf8.{encode}
 
 -- ---- steps

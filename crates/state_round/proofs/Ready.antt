@@ -1,5 +1,5 @@
 -- Each word of a state file is a token, and white space stands after it.
-use Rattle.std.proofs.Common.{◌≡◌, ◌⊎◌, inl, inr, ⊎_elim, ℕ, ◌+◌, ◌^◌, ◌<◌, ◌≤◌, ◌==◌, Bool, true, false, not, cond, ◌&&◌, ◌||◌, List, [], ◌∷◌, ◌++◌, length, codes, Option, None, Some, IsTrue, IsUtf8, refl, sym, ap, ◌∙◌, subst, true≢false, arith, append_assoc}
+use Rattle.std.proofs.Common.{◌≡◌, ℕ, ◌+◌, ◌^◌, ◌<◌, ◌==◌, Bool, true, false, ◌&&◌, ◌||◌, List, [], ◌∷◌, ◌++◌, length, codes, refl, sym, subst, arith, append_assoc}
 use Rattle.std.specs.Prelude.{decimal}
 use Rattle.std.proofs.lemmas.Bool.{eqb-true}
 use Rattle.std.proofs.lemmas.List.Elements.{All-head, All-tail}
@@ -10,13 +10,13 @@ use Rattle.base64.specs.GeneralPurpose.{encode_of}
 use Rattle.state_file.specs.declared.saved.Saved.{Saved}
 use Rattle.state_store.specs.Properties.{is_mapped, are_flags, is_storable}
 use Rattle.state_store.specs.declared.prop.Prop.{Prop}
-use Rattle.turtle_grammar.specs.Characters.{is_white, is_excluded}
+use Rattle.turtle_grammar.specs.Characters.{is_white}
 use Rattle.turtle_grammar.specs.declared.token.TokenKind.{TokenKind}
 use Rattle.turtle_grammar.specs.declared.token.TokenKind.TheVariants.{Iri, Namespace, PrefixedName, LanguageTag, Integer, String, Dot, Semicolon, OpenSquare, CloseSquare, A}
 use Rattle.turtle_words.specs.Words.{Word, written, are_white, begins_white, IsToken, IsWord, AreSpaced}
 use Rattle.turtle_words.proofs.Tokens.{iris_are_tokens, strings_are_tokens}
 use Rattle.state_round.specs.RoundTrip.{IsPlain, IsSelf, IsWritable, IsSaved}
-use Rattle.state_round.proofs.Words.{word, angle, quote, row_uri, kind_uri, semicolon, subject_text, property_words, more_words, properties_words, head_words, foot_words, in_file, saved_words, states_words, state_namespace, fx_namespace, first_words, file_words}
+use Rattle.state_round.proofs.Words.{word, angle, quote, row_uri, kind_uri, semicolon, subject_text, property_words, more_words, properties_words, head_words, foot_words, in_file, saved_words, states_words, state_namespace, fx_namespace, file_words}
 use Rattle.state_round.proofs.Vocabulary.{dot, semicolon_token, opening_token, closing_token, is_a_token, prefix_word, state_prefix, fx_prefix, fx_saved, fx_name, fx_plugin, state_state, fx_type, fx_flags, fx_bytes, three, seven}
 use Rattle.state_round.proofs.Values.{self_excludes, self_of, subject_utf8, subject_plain, state_self, fx_self}
 use Rattle.state_round.proofs.Order.{all_in_file}
@@ -139,9 +139,10 @@ saved_ready urids number saved words more low plain is rows rest =
 -- the flags of what may be on a shelf
 listed : (urids : List (List ℕ)) (rows : List (ℕ × Prop)) → AllByRecursion (IsWritable urids) rows → AllPass (is_storable (length urids)) rows → AllByRecursion (IsListed urids) rows
 listed urids [] all lawful = tt
-listed urids (row ∷ rows) all lawful =
-    ((all.0, second (is_mapped (length urids) row.0 && is_mapped (length urids) row.1.kind) (are_flags row.1.flags) (All-head (λ row. is_storable (length urids) row ≡ true) row rows lawful)),
-      listed urids rows all.1 (All-tail (λ row. is_storable (length urids) row ≡ true) row rows lawful))
+listed urids (row ∷ rows) all lawful = (
+  (all.0, second (is_mapped (length urids) row.0 && is_mapped (length urids) row.1.kind) (are_flags row.1.flags) (All-head (λ row. is_storable (length urids) row ≡ true) row rows lawful)),
+  listed urids rows all.1 (All-tail (λ row. is_storable (length urids) row ≡ true) row rows lawful),
+)
   where
     second : (a b : Bool) → a && b ≡ true → b ≡ true
     second true b h = h

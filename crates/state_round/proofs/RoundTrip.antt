@@ -1,5 +1,5 @@
 -- Reading back what was written gives the same.
-use Rattle.std.proofs.Common.{List, [], subst}
+use Rattle.std.proofs.Common.{[], subst}
 use Rattle.state_file.specs.StateText.{state_text}
 use Rattle.turtle_document.proofs.OneOutcome.{one_outcome}
 use Rattle.turtle_document.specs.Answer.Outcome.{document}

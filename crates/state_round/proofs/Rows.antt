@@ -1,5 +1,5 @@
 -- The triples that a state file means, and what they say of each subject.
-use Rattle.std.proofs.Common.{◌≡◌, ◌⊎◌, inl, inr, ⊎_elim, ℕ, zero, suc, ◌+◌, ◌<◌, ◌≤◌, ◌==◌, nat_eq, Bool, true, false, not, cond, ◌&&◌, ◌||◌, List, [], ◌∷◌, ◌++◌, length, filter, Option, None, Some, refl, sym, ap, ◌∙◌, subst, true≢false, arith, append_assoc, append-nil, eq-eqb, ne_eqb}
+use Rattle.std.proofs.Common.{◌≡◌, ◌⊎◌, inl, inr, ℕ, suc, ◌+◌, ◌<◌, ◌≤◌, Bool, true, false, cond, ◌&&◌, ◌||◌, List, [], ◌∷◌, ◌++◌, filter, None, Some, refl, ap, ◌∙◌, arith, append-nil, ne_eqb}
 use Rattle.std.specs.Prelude.{decimal}
 use Rattle.std.proofs.lemmas.List.Elements.{filter-append}
 use Rattle.std.specs.List.{list_any}
@@ -7,8 +7,8 @@ use Rattle.base64.specs.Engines.{standard}
 use Rattle.base64.specs.GeneralPurpose.{encode_of}
 use Rattle.state_file.specs.declared.saved.Saved.{Saved}
 use Rattle.state_store.specs.declared.prop.Prop.{Prop}
-use Rattle.triple_store.proofs.SameTerm.{same_term-itself, same_term-true}
-use Rattle.triple_store.specs.Triples.{same_term, allows, agrees}
+use Rattle.triple_store.proofs.SameTerm.{same_term-itself}
+use Rattle.triple_store.specs.Triples.{same_term, agrees}
 use Rattle.triple_store.specs.declared.term.Term.{Term}
 use Rattle.triple_store.specs.declared.term.Term.TheVariants.{Iri, Blank, Literal}
 use Rattle.triple_store.specs.declared.term.Triple.{Triple}
@@ -54,6 +54,10 @@ properties_rows node b urids (row ∷ rows) = property_rows node b urids row ++ 
 abbrev pub blanks_after : ℕ → List (ℕ × Prop) → ℕ
 blanks_after b [] = b
 blanks_after b (row ∷ rows) = blanks_after (suc b) rows
+
+pub rises : (b : ℕ) (rows : List (ℕ × Prop)) → b ≤ blanks_after b rows
+rises b [] = omega arith
+rises b (row ∷ rows) = let more = rises (suc b) rows in omega (arith, more)
 
 abbrev pub head_rows : Term → Saved → List Triple
 head_rows subject saved =
@@ -163,10 +167,6 @@ blank_properties m node b urids (row ∷ rows) apart beside =
     (own-next (Blank m) (key_row node b urids row) [] (blank_other m node apart)))
     (blank_properties m node (suc b) urids rows apart (further beside))
   where
-    rises : (b : ℕ) (rows : List (ℕ × Prop)) → b ≤ blanks_after b rows
-    rises b [] = omega arith
-    rises b (row ∷ rows) = let more = rises (suc b) rows in omega (arith, more)
-
     outside : (rows : List (ℕ × Prop)) → (m < b) ⊎ (blanks_after (suc b) rows ≤ m) → m ≡ b → ⊥
     outside rows (inl less) e = omega (arith, less, e)
     outside rows (inr most) e = let more = rises (suc b) rows in omega (arith, most, e, more)

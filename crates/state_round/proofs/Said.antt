@@ -1,5 +1,5 @@
 -- The document that a state file is, and its triples.
-use Rattle.std.proofs.Common.{◌≡◌, ◌⊎◌, inl, inr, ℕ, zero, suc, ◌+◌, ◌*◌, ◌^◌, ◌<◌, ◌≤◌, Bool, true, false, cond, List, [], ◌∷◌, ◌++◌, length, codes, Option, None, Result, Ok, Err, refl, sym, ap, ◌∙◌, subst, true≢false, arith, append_assoc, append-nil, length-append}
+use Rattle.std.proofs.Common.{◌≡◌, ◌⊎◌, inl, inr, ℕ, suc, ◌+◌, ◌*◌, ◌^◌, ◌<◌, ◌≤◌, Bool, true, false, List, [], ◌∷◌, ◌++◌, length, codes, None, Ok, refl, sym, ap, ◌∙◌, arith, append_assoc, append-nil, length-append}
 use Rattle.std.specs.List.{AllByRecursion}
 use Rattle.std.specs.Str.{chars, bytes_eq}
 use Rattle.std.proofs.lemmas.Slice.Eq.{bytes_eq-Decides}
@@ -16,7 +16,7 @@ use Rattle.turtle_grammar.specs.Tree.Suffix.{nothing}
 use Rattle.turtle_grammar.specs.Tree.Verb.{predicate, is_a}
 use Rattle.turtle_grammar.specs.Tree.Object.{named, quoted}
 use Rattle.turtle_grammar.specs.Tree.More.{done, next}
-use Rattle.turtle_document.specs.Meaning.{Fault, State, ◌>>=◌, read, bound, absolute, verb_of, object_of, object_end, predicates_of, triples_of, statement_of, document_of, beginning}
+use Rattle.turtle_document.specs.Meaning.{State, read, bound, absolute, verb_of, object_of, object_end, predicates_of, statement_of, document_of, beginning}
 use Rattle.vocabulary.specs.Words.{iri_of}
 use Rattle.vocabulary.specs.declared.word.Word.TheVariants.{RdfType, StateState, FxSaved, FxName, FxPlugin, XsdString}
 use Rattle.state_round.specs.RoundTrip.{IsPlain, IsSelf, IsWritable, IsSaved, triples_for}
@@ -24,7 +24,7 @@ use Rattle.state_round.proofs.Words.{angle, quote, subject_text, in_file, saved_
 use Rattle.state_round.proofs.Tree.{Places, shift, after, leaf, node_tree, state_tree, plugin_tree, name_tree, class_tree, saved_tree, states_tree, first_tree, second_tree, file_tree}
 use Rattle.state_round.proofs.Values.{absolute_self, absolute_subject, subject_iri, subject_same, state_self, fx_self}
 use Rattle.state_round.proofs.Order.{all_in_file, length_in_file}
-use Rattle.state_round.proofs.Rows.{triple, term_of, properties_rows, blanks_after, head_rows, node_row, saved_rows, subject_of, states_rows, own, own_push, own_past, own_both, own-append, own-next, own-first, no_row, iri_properties, blank_properties}
+use Rattle.state_round.proofs.Rows.{triple, term_of, properties_rows, blanks_after, rises, head_rows, node_row, saved_rows, subject_of, states_rows, own, own_push, own_past, own_both, own-next, no_row, iri_properties, blank_properties}
 use Rattle.state_round.proofs.Meant.{bind, state, added, one_more, row_read, iri_object, text_object, node_read}
 use lib.Utf8.{encode}
 
@@ -76,7 +76,6 @@ state_read : (place : Places) (urids : List (List ℕ)) (saved : Saved) (rest : 
     → predicates_of (state_tree place urids rest) 0 (Iri iri) (state base b rows) ≡ Ok (state base (blanks_after (suc b) rest) (rows ++ tail_rows (Iri iri) b urids rest))
 unfolding iri_of
 state_read place urids saved rest base iri b rows all fresh held room =
-    let inside : List Triple = rows ++ properties_rows b (suc b) urids rest in
     let own_inside : own (Iri iri) (rows ++ properties_rows b (suc b) urids rest) ≡ class_row (Iri iri) ∷ name_row (Iri iri) saved ∷ plugin_row (Iri iri) saved ∷ [] =
     own_both rows (properties_rows b (suc b) urids rest) (class_row (Iri iri) ∷ name_row (Iri iri) saved ∷ plugin_row (Iri iri) saved ∷ []) [] (Iri iri) held (iri_properties iri b (suc b) urids rest) in
     one_more (predicate (prefixed (leaf (place 10) (codes "state:state")))) (node_tree (shift 11 place) urids rest) done 0 (Iri iri) (term_of StateState) (Blank b) (state base b rows)
@@ -150,10 +149,6 @@ pub block_blank : (m : ℕ) (iri : List ℕ) (b : ℕ) (urids : List (List ℕ))
 block_blank m iri b urids saved rest beside =
     own_both (properties_rows b (suc b) urids rest) (node_row (Iri iri) b ∷ []) [] [] (Blank m) (blank_properties m b (suc b) urids rest (apart beside) (wider beside)) refl
   where
-    rises : (b : ℕ) (rows : List (ℕ × Prop)) → b ≤ blanks_after b rows
-    rises b [] = omega arith
-    rises b (row ∷ rows) = let more = rises (suc b) rows in omega (arith, more)
-
     apart : (m < b) ⊎ (blanks_after (suc b) rest ≤ m) → m ≡ b → ⊥
     apart (inl less) e = omega (arith, less, e)
     apart (inr most) e = let more = rises (suc b) rest in omega (arith, most, e, more)
@@ -179,10 +174,6 @@ known_next base number b urids saved rest rows low known = record {
       own_both rows (block (subject_of base number) b urids saved rest) [] [] (subject_of base m) (known.new m (omega (arith, more)) less)
       (block_other (subject_iri base number) (subject_iri base m) b urids saved rest (subject_other base m number less low (λ e. omega (arith, more, e))));
 }
-  where
-    rises : (b : ℕ) (rows : List (ℕ × Prop)) → b ≤ blanks_after b rows
-    rises b [] = omega arith
-    rises b (row ∷ rows) = let more = rises (suc b) rows in omega (arith, more)
 
 -- the next number after all states
 abbrev pub last_blank : ℕ → List (List ℕ) → List Saved → ℕ

@@ -1,5 +1,5 @@
 -- Storing the properties in the order of a file leaves them in the order of their keys, and all of them.
-use Rattle.std.proofs.Common.{◌≡◌, ◌⊎◌, inl, inr, ℕ, zero, suc, ◌+◌, ◌<◌, ◌≤◌, ◌==◌, nat_lt, Bool, true, false, cond, List, [], ◌∷◌, ◌++◌, length, take, drop, filter, refl, sym, ap, ◌∙◌, subst, arith, append_assoc, append-nil, lt-ltb, le-ltb}
+use Rattle.std.proofs.Common.{◌≡◌, ℕ, ◌+◌, ◌<◌, nat_lt, Bool, true, false, cond, List, [], ◌∷◌, ◌++◌, length, take, drop, filter, refl, sym, ap, ◌∙◌, subst, arith, append_assoc, append-nil, lt-ltb, le-ltb}
 use Rattle.std.specs.Prelude.{fold}
 use Rattle.std.proofs.lemmas.List.{take-append-drop}
 use Rattle.std.proofs.lemmas.List.Elements.{filter-append}
@@ -69,7 +69,6 @@ kept_below key held (row ∷ rows) h k =
 
 kept_placed : (urids : List (List ℕ)) (held : List (ℕ × Prop)) (row : ℕ × Prop) → AllBelow row.0 held → kept [] (placed_row urids held row) ≡ kept [] held ++ row ∷ []
 kept_placed urids held row all =
-    let front : List (ℕ × Prop) = take (place urids held row) held in
     let whole : AllBelow row.0 (take (place urids held row) held ++ drop (place urids held row) held) = subst (AllBelow row.0) (sym (take-append-drop (place urids held row) held)) all in
     let first : AllBelow row.0 (take (place urids held row) held) = all_front (λ (other : ℕ × Prop). other.0 < row.0) (take (place urids held row) held) (drop (place urids held row) held) whole in
     let second : AllBelow row.0 (drop (place urids held row) held) = all_back (λ (other : ℕ × Prop). other.0 < row.0) (take (place urids held row) held) (drop (place urids held row) held) whole in

@@ -1,17 +1,15 @@
 -- The text of a state file is its words.
-use Rattle.std.proofs.Common.{◌≡◌, ℕ, zero, suc, ◌+◌, ◌<◌, ◌≤◌, ◌==◌, Bool, true, false, not, cond, List, [], ◌∷◌, ◌++◌, length, map, take, drop, codes, Option, None, Some, refl, sym, ap, ◌∙◌, subst, append_assoc, append-nil, arith}
-use Rattle.std.specs.Prelude.{decimal, fold, insert}
-use Rattle.std.specs.List.{position_or_len, AllByRecursion}
-use Rattle.base64.specs.Engines.{standard}
-use Rattle.base64.specs.GeneralPurpose.{encode_of}
-use Rattle.state_file.specs.Order.{uri_text, comes_before, placed, in_order}
-use Rattle.state_file.specs.StateText.{prefixes, type_text, bytes_text, value_text, held_text, property_text, line_end, line_text, properties_text, head_text, saved_text, states_text, state_text}
+use Rattle.std.proofs.Common.{◌≡◌, ℕ, ◌+◌, List, [], ◌∷◌, ◌++◌, map, codes, Some, refl, sym, ap, ◌∙◌, append_assoc, append-nil}
+use Rattle.std.specs.Prelude.{decimal}
+use Rattle.std.specs.List.{AllByRecursion}
+use Rattle.state_file.specs.Order.{in_order}
+use Rattle.state_file.specs.StateText.{value_text, held_text, line_end, properties_text, head_text, saved_text, states_text, state_text}
 use Rattle.state_file.specs.declared.saved.Saved.{Saved}
 use Rattle.state_store.specs.Properties.{held}
 use Rattle.state_store.specs.declared.prop.Prop.{Prop}
 use Rattle.turtle_words.specs.Words.{Word, written}
 use Rattle.state_round.proofs.Order.{Rise, all_in_file, keys_in_order, held_each}
-use Rattle.state_round.proofs.Words.{angle, quote, row_uri, kind_uri, semicolon, property_words, more_words, properties_words, head_words, foot_words, placed_row, in_file, saved_words, states_words, first_words, file_words}
+use Rattle.state_round.proofs.Words.{row_uri, semicolon, property_words, properties_words, head_words, foot_words, in_file, saved_words, states_words, first_words, file_words}
 
 pub written-append : (a b : List Word) (more : List ℕ) → written (a ++ b) more ≡ written a (written b more)
 written-append [] b more = refl

@@ -1,13 +1,12 @@
 -- The parse tree of a state file, whose leaves are its words: leaf i stands at a place that is left open.
-use Rattle.std.proofs.Common.{◌≡◌, ℕ, zero, suc, ◌+◌, ◌-◌, List, [], ◌∷◌, ◌++◌, length, map, take, drop, codes, refl, sym, ap, ◌∙◌, arith, append_assoc, length-append}
+use Rattle.std.proofs.Common.{◌≡◌, ℕ, zero, suc, ◌+◌, ◌-◌, List, [], ◌∷◌, ◌++◌, length, take, drop, codes, refl, sym, ap, ◌∙◌, arith, append_assoc, length-append}
 use Rattle.std.specs.Prelude.{decimal}
 use Rattle.std.proofs.lemmas.List.{take_at, drop_at}
 use Rattle.base64.specs.Engines.{standard}
 use Rattle.base64.specs.GeneralPurpose.{encode_of}
 use Rattle.state_file.specs.declared.saved.Saved.{Saved}
 use Rattle.state_store.specs.declared.prop.Prop.{Prop}
-use Rattle.turtle_grammar.specs.declared.token.Token.{Token}
-use Rattle.turtle_grammar.specs.Tree.{Lexeme, Leaf, Subject, Object, Predicates, More, Statement, Document, object_tokens, predicates_tokens, more_tokens, statement_tokens, document_tokens}
+use Rattle.turtle_grammar.specs.Tree.{Lexeme, Leaf, Subject, Object, Predicates, More, Statement, Document, object_tokens, more_tokens, statement_tokens, document_tokens}
 use Rattle.turtle_grammar.specs.Tree.Name.{full, prefixed}
 use Rattle.turtle_grammar.specs.Tree.Quoting.{double}
 use Rattle.turtle_grammar.specs.Tree.Shorthand.{integer}
@@ -19,7 +18,7 @@ use Rattle.turtle_grammar.specs.Tree.Objects.{one}
 use Rattle.turtle_grammar.specs.Tree.More.{done, next}
 use Rattle.turtle_grammar.specs.Tree.Triples.{about}
 use Rattle.turtle_grammar.specs.Tree.Statement.{at_prefix, triples}
-use Rattle.turtle_document.specs.Answer.{lexeme_of, lexemes_of}
+use Rattle.turtle_document.specs.Answer.{lexemes_of}
 use Rattle.turtle_words.specs.Words.{Word, written, tokens_from}
 use Rattle.state_round.proofs.Words.{angle, quote, row_uri, kind_uri, subject_text, semicolon, opening, closing, full_stop, subject_words, property_words, more_words, properties_words, head_words, foot_words, in_file, saved_words, states_words, state_namespace, fx_namespace, first_words, file_words}
 

@@ -1,19 +1,16 @@
 -- What the leaves of a state file stand for.
-use Rattle.std.proofs.Common.{◌≡◌, ◌⊎◌, inl, inr, ⊎_elim, ℕ, zero, suc, ◌+◌, ◌-◌, ◌*◌, ◌^◌, ◌/◌, ◌%◌, ◌<◌, ◌≤◌, ◌==◌, Bool, true, false, not, cond, ◌&&◌, ◌||◌, List, [], ◌∷◌, ◌++◌, length, take, drop, codes, Option, None, Some, IsTrue, IsUtf8, Result, Ok, Err, unwrap_or, refl, sym, ap, ◌∙◌, subst, true≢false, arith, append_assoc, length-append}
+use Rattle.std.proofs.Common.{◌≡◌, ℕ, zero, suc, ◌+◌, ◌-◌, ◌^◌, ◌%◌, ◌<◌, ◌≤◌, ◌==◌, Bool, true, false, not, cond, ◌&&◌, ◌||◌, List, [], ◌∷◌, ◌++◌, length, take, codes, IsUtf8, Result, Ok, Err, unwrap_or, refl, sym, ap, ◌∙◌, subst, true≢false, arith, length-append}
 use Rattle.std.specs.Prelude.{decimal, is_some, encode_utf8_all}
-use Rattle.std.proofs.lemmas.Bool.{eqb-true}
+use Rattle.std.proofs.lemmas.Bool.{eqb-true, and_parts, or_parts}
 use Rattle.std.proofs.lemmas.Fmt.{decimal_by_steps, decimal_is_IsNumeral, IsAscii-decimal}
 use Rattle.std.proofs.lemmas.List.{take_at, take_all, append_cancel_left}
 use Rattle.std.proofs.lemmas.Str.{encodes-chars, IsUtf8-append, IsUtf8-from_ascii, IsUtf8-from_is_utf8}
-use Rattle.std.specs.List.{list_any, list_all, position_or_len}
+use Rattle.std.specs.List.{list_any, list_all}
 use Rattle.std.specs.Str.{chars, is_utf8}
 use Rattle.std.specs.Str.Parse.{digits_value}
 use Rattle.base64.proofs.Tables.{all_below_at}
-use Rattle.base64.specs.Tables.{all_below}
 use Rattle.state_file.specs.Order.{uri_text}
 use Rattle.iri_resolve.specs.Components.{components, scheme_of}
-use Rattle.iri_resolve.specs.Iri.{is_iri_text}
-use Rattle.iri_resolve.specs.Dots.{without_dots}
 use Rattle.iri_resolve.specs.Target.{resolved, marked, scheme_text}
 use Rattle.iri_resolve.proofs.Itself.{resolved-itself}
 use Rattle.turtle_grammar.specs.Characters.{is_excluded}
@@ -29,14 +26,6 @@ use lib.Utf8.{encode}
 
 -- ---- tests of all characters
 
-neither : (a b : Bool) → a || b ≡ false → (a ≡ false) × (b ≡ false)
-neither true b h = cc
-neither false b h = (refl, h)
-
-two : (a b : Bool) → a && b ≡ true → (a ≡ true) × (b ≡ true)
-two true b h = (refl, h)
-two false b h = cc
-
 not_all : (class : ℕ → Bool) (text : List ℕ) → list_all (λ c. not (class c)) text ≡ true → list_any class text ≡ false
 not_all class [] h = refl
 not_all class (c ∷ text) h = by (class c) refl h (not_all class text)
@@ -48,14 +37,14 @@ not_all class (c ∷ text) h = by (class c) refl h (not_all class text)
 no_backslash : (class : ℕ → Bool) → class 92 ≡ true → (text : List ℕ) → list_any class text ≡ false → list_any (λ c. c == 92) text ≡ false
 no_backslash class is [] h = refl
 no_backslash class is (c ∷ text) h =
-    let k = neither (class c) (list_any class text) h in
+    let k = or_parts (class c) (list_any class text) h in
     by (c == 92) refl k.0 (no_backslash class is text k.1)
   where
     by : (b : Bool) → (c == 92) ≡ b → class c ≡ false → list_any (λ c. c == 92) text ≡ false → (c == 92) || list_any (λ c. c == 92) text ≡ false
     by true e out rest = absurd (true≢false (sym (ap class (eqb-true c 92 e) ∙ is) ∙ out))
     by false e out rest = ap (λ v. v || list_any (λ c. c == 92) text) e ∙ rest
 
--- ---- between two marks
+-- ---- between and_parts marks
 
 kept : (b : Bool) (x y : List ℕ) → b ≡ false → cond b x y ≡ y
 kept true x y e = cc
@@ -66,7 +55,7 @@ unescaped_same zero [] le h = refl
 unescaped_same zero (c ∷ cs) le h = absurd (omega arith)
 unescaped_same (suc n) [] le h = refl
 unescaped_same (suc n) (c ∷ cs) le h =
-    let k = neither (c == 92) (list_any (λ c. c == 92) cs) h in
+    let k = or_parts (c == 92) (list_any (λ c. c == 92) cs) h in
     kept (c == 92) _ (c ∷ unescaped_up_to n cs) k.0 ∙ ap (λ l. c ∷ l) (unescaped_same n cs (omega arith) k.1)
 
 inside_is : (first last : ℕ) (cs : List ℕ) → inside 1 (first ∷ (cs ++ last ∷ [])) ≡ cs
@@ -94,7 +83,7 @@ string_is text is =
 -- ---- IRIs
 
 pub self_excludes : (iri : List ℕ) → IsSelf iri → list_any is_excluded iri ≡ false
-self_excludes iri is = not_all is_excluded iri (two (is_some (scheme_of iri)) (list_all (λ c. not (is_excluded c)) iri) is.full).1
+self_excludes iri is = not_all is_excluded iri (and_parts (is_some (scheme_of iri)) (list_all (λ c. not (is_excluded c)) iri) is.full).1
 
 absolute_is : (base iri : List ℕ) (at : ℕ) → IsUtf8 iri → list_any is_excluded iri ≡ false → absolute base (leaf at (angle iri)) ≡ Ok (resolved base iri)
 absolute_is base iri at utf8 none =
@@ -107,7 +96,7 @@ absolute_is base iri at utf8 none =
 pub absolute_self : (base iri : List ℕ) (at : ℕ) → IsSelf iri → absolute base (leaf at (angle iri)) ≡ Ok iri
 absolute_self base iri at is =
     absolute_is base iri at is.utf8 (self_excludes iri is)
-    ∙ ap Ok (resolved-itself iri (two (is_some (scheme_of iri)) (list_all (λ c. not (is_excluded c)) iri) is.full).0 is.undotted base)
+    ∙ ap Ok (resolved-itself iri (and_parts (is_some (scheme_of iri)) (list_all (λ c. not (is_excluded c)) iri) is.full).0 is.undotted base)
 
 -- ---- subjects
 
@@ -122,7 +111,7 @@ digit_plain d less = not_true (is_excluded (48 + d)) (all_below_at (λ d. not (i
 push_plain : (ds : List ℕ) (c : ℕ) → list_any is_excluded ds ≡ false → is_excluded c ≡ false → list_any is_excluded (ds ++ c ∷ []) ≡ false
 push_plain [] c h e = ap (λ b. b || false) e
 push_plain (d ∷ ds) c h e =
-    let k = neither (is_excluded d) (list_any is_excluded ds) h in
+    let k = or_parts (is_excluded d) (list_any is_excluded ds) h in
     ap (λ b. b || list_any is_excluded (ds ++ c ∷ [])) k.0 ∙ push_plain ds c k.1 e
 
 decimal_plain : (n : ℕ) → n < 2 ^ 64 → list_any is_excluded (decimal n) ≡ false

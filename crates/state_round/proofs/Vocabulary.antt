@@ -1,5 +1,5 @@
 -- The words of a state file that are always the same: each is a token before white space.
-use Rattle.std.proofs.Common.{◌≡◌, ℕ, Bool, true, List, [], ◌∷◌, ◌++◌, codes, refl}
+use Rattle.std.proofs.Common.{codes, refl}
 use Rattle.std.specs.Str.{chars, is_utf8}
 use Rattle.turtle_grammar.specs.Characters.{is_white, is_line_end, is_digit, is_letter, is_letter_or_digit, is_hex, is_sign, is_exponent, is_excluded, is_escape, is_name_base, is_name_start, is_name_char, is_local_escape}
 use Rattle.turtle_grammar.specs.Terminals.{pattern, iriref, short_string, long_string, integer, decimal, double, pname_ns, pname_ln, blank_label, langtag}

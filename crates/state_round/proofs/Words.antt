@@ -1,5 +1,5 @@
 -- The words that a state file is written in.
-use Rattle.std.proofs.Common.{◌≡◌, ℕ, ◌+◌, List, [], ◌∷◌, ◌++◌, codes, map}
+use Rattle.std.proofs.Common.{ℕ, ◌+◌, List, [], ◌∷◌, ◌++◌, codes}
 use Rattle.std.specs.Prelude.{decimal, fold, insert}
 use Rattle.std.specs.List.{position_or_len}
 use Rattle.base64.specs.Engines.{standard}
@@ -47,7 +47,7 @@ abbrev pub properties_words : List (List ℕ) → List (ℕ × Prop) → List Wo
 properties_words urids [] = []
 properties_words urids (row ∷ rows) = property_words urids row ++ more_words urids rows
 
--- a state up to its properties, and what stands behind them
+-- a state up to its properties, and what stands after them
 abbrev pub subject_text : ℕ → List ℕ
 subject_text number = codes "#save" ++ decimal number
 

@@ -3,4 +3,4 @@
 
 mod laws;
 
-pub use laws::{read_is_written, written_is_read};
+pub use laws::{names_are_plain, read_is_written, written_is_read};

@@ -1,5 +1,6 @@
 -- A text that is written word by word falls into the tokens of its words.
-use Rattle.std.proofs.Common.{IsUtf8, ◌≡◌, ℕ, ◌+◌, Bool, true, false, not, ◌&&◌, ◌||◌, ◌==◌, List, [], ◌∷◌, ◌++◌, length, take, drop, refl, sym, ap, ◌∙◌, subst, arith, append-nil, append_assoc, length-append}
+use Rattle.std.proofs.Common.{IsUtf8, ◌≡◌, ℕ, ◌+◌, true, not, ◌||◌, ◌==◌, List, [], ◌∷◌, ◌++◌, length, take, drop, refl, sym, ap, ◌∙◌, subst, arith, append-nil, append_assoc, length-append}
+use Rattle.std.proofs.lemmas.Bool.{and_parts}
 use Rattle.std.specs.Prelude.{encode_utf8_all}
 use Rattle.std.proofs.lemmas.List.{take_at, drop_at, drop_all}
 use Rattle.std.proofs.lemmas.Str.{chars-append, encodes-chars, IsUtf8-append, IsUtf8-from_is_utf8}
@@ -15,10 +16,6 @@ use Rattle.turtle_words.specs.Words.{Word, written, tokens_from, are_white, begi
 use Rattle.turtle_words.proofs.Runs.{is_fails, longest, white_is, gap_after, gap_empty, gap_stops}
 use lib.Utf8.{encode}
 
-and_true : (a b : Bool) → a && b ≡ true → (a ≡ true) × (b ≡ true)
-and_true true b h = (refl, h)
-and_true false b h = cc
-
 -- ---- white space in bytes and in characters
 
 white_first : (c : ℕ) (rest : List ℕ) → is_white c ≡ true → chars (c ∷ rest) ≡ c ∷ chars rest
@@ -29,7 +26,7 @@ white_first c (b ∷ rest) h = white_is (λ c. chars (c ∷ b ∷ rest) ≡ c �
 white_chars : (g rest : List ℕ) → are_white g ≡ true → chars (g ++ rest) ≡ g ++ chars rest
 white_chars [] rest h = refl
 white_chars (c ∷ g) rest h =
-    let k = and_true (is_white c) (are_white g) h in
+    let k = and_parts (is_white c) (are_white g) h in
     white_first c (g ++ rest) k.0 ∙ ap (λ l. c ∷ l) (white_chars g rest k.1)
 
 white_code : (c : ℕ) → is_white c ≡ true → encode c ≡ c ∷ []
@@ -39,7 +36,7 @@ white_code c h = white_is (λ c. encode c ≡ c ∷ []) refl refl refl refl c h
 white_bytes : (g : List ℕ) → are_white g ≡ true → encode_utf8_all g ≡ g
 white_bytes [] h = refl
 white_bytes (c ∷ g) h =
-    let k = and_true (is_white c) (are_white g) h in
+    let k = and_parts (is_white c) (are_white g) h in
     ap (λ l. l ++ encode_utf8_all g) (white_code c k.0) ∙ ap (λ l. c ∷ l) (white_bytes g k.1)
 
 chars_white : (rest : List ℕ) → begins_white rest ≡ true → begins_white (chars rest) ≡ true
@@ -78,7 +75,6 @@ answer_is word rest at is white =
 
 next_is : (word : Word) (rest : List ℕ) (at : ℕ) → IsWord word → begins_white rest ≡ true → IsNext (word.space ++ (chars word.text ++ rest)) at (next (token_from at word))
 next_is word rest at is white =
-    let back : List ℕ = chars word.text ++ rest in
     let skipped : bytes_of (take (length word.space) (word.space ++ (chars word.text ++ rest))) ≡ length word.space =
     ap bytes_of (take_at word.space (chars word.text ++ rest) (length word.space) refl) ∙ ap length (white_bytes word.space is.white) in
     let left : drop (length word.space) (word.space ++ (chars word.text ++ rest)) ≡ chars word.text ++ rest = drop_at word.space (chars word.text ++ rest) (length word.space) refl in (
@@ -126,7 +122,7 @@ white_utf8 : (g : List ℕ) → are_white g ≡ true → IsUtf8 g
 unfolding is_utf8 chars encode
 white_utf8 [] h = IsUtf8-from_is_utf8 [] refl
 white_utf8 (c ∷ g) h =
-    let k = and_true (is_white c) (are_white g) h in
+    let k = and_parts (is_white c) (are_white g) h in
     IsUtf8-append (c ∷ []) g
     (white_is (λ c. IsUtf8 (c ∷ [])) (IsUtf8-from_is_utf8 (32 ∷ []) refl) (IsUtf8-from_is_utf8 (9 ∷ []) refl) (IsUtf8-from_is_utf8 (13 ∷ []) refl) (IsUtf8-from_is_utf8 (10 ∷ []) refl) c k.0)
     (white_utf8 g k.1)

@@ -1,6 +1,6 @@
 -- Words, marks, names and numbers with white space after them: each is the longest token there, and of one kind.
 use Rattle.std.proofs.Common.{◌≡◌, inl, inr, ℕ, Bool, true, false, ◌&&◌, None, MatchOption, List, [], ◌∷◌, ◌++◌, length, take, refl, sym, ap, ◌∙◌, subst, true≢false, arith, length-append}
-use Rattle.std.proofs.lemmas.Bool.{cases_lt}
+use Rattle.std.proofs.lemmas.Bool.{cases_lt, and_parts}
 use Rattle.std.proofs.lemmas.List.{take_at}
 use Rattle.std.specs.List.{list_all, AllByRecursion}
 use Rattle.turtle_grammar.specs.Characters.{is_white}
@@ -23,13 +23,9 @@ kinds =
     Iri ∷ Namespace ∷ PrefixedName ∷ BlankLabel ∷ LanguageTag ∷ Integer ∷ Decimal ∷ Double ∷ String ∷ SingleString ∷ LongSingleString ∷ LongString ∷ Dot ∷ Comma ∷ Semicolon
     ∷ OpenSquare ∷ CloseSquare ∷ OpenRound ∷ CloseRound ∷ DoubleCaret ∷ A ∷ True ∷ False ∷ Prefix ∷ Base ∷ []
 
-two : (a b : Bool) → a && b ≡ true → (a ≡ true) × (b ≡ true)
-two true b h = (refl, h)
-two false b h = cc
-
 each_passes : (P : TokenKind → Bool) (ks : List TokenKind) → list_all P ks ≡ true → AllByRecursion (λ (kind : TokenKind). P kind ≡ true) ks
 each_passes P [] h = tt
-each_passes P (kind ∷ ks) h = let k = two (P kind) (list_all P ks) h in (k.0, each_passes P ks k.1)
+each_passes P (kind ∷ ks) h = let k = and_parts (P kind) (list_all P ks) h in (k.0, each_passes P ks k.1)
 
 all_kinds : (P : TokenKind → Bool) → list_all P kinds ≡ true → (kind : TokenKind) → P kind ≡ true
 all_kinds P h kind = by kind (each_passes P kinds h)
@@ -73,9 +69,9 @@ ends_all t = list_all (λ (kind : TokenKind). dies (after_all t (pattern kind)))
 
 dead : (p : Pattern) → dies p ≡ true → (c : ℕ) → is_white c ≡ true → is_fails (after c p) ≡ true
 dead p h c white =
-    let a = two (is_fails (after 32 p)) (is_fails (after 9 p) && (is_fails (after 13 p) && is_fails (after 10 p))) h in
-    let b = two (is_fails (after 9 p)) (is_fails (after 13 p) && is_fails (after 10 p)) a.1 in
-    let d = two (is_fails (after 13 p)) (is_fails (after 10 p)) b.1 in
+    let a = and_parts (is_fails (after 32 p)) (is_fails (after 9 p) && (is_fails (after 13 p) && is_fails (after 10 p))) h in
+    let b = and_parts (is_fails (after 9 p)) (is_fails (after 13 p) && is_fails (after 10 p)) a.1 in
+    let d = and_parts (is_fails (after 13 p)) (is_fails (after 10 p)) b.1 in
     white_is (λ c. is_fails (after c p) ≡ true) a.0 b.0 d.0 d.1 c white
 
 -- a text that is a token has one kind

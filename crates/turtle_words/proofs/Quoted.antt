@@ -1,6 +1,6 @@
 -- IRIs and strings without escapes, each to its closing bracket or quote.
-use Rattle.std.proofs.Common.{◌≡◌, ℕ, Bool, true, false, not, cond, ◌&&◌, ◌||◌, ◌==◌, nat_eq, Some, MatchOption, List, [], ◌∷◌, ◌++◌, length, take, refl, sym, ap, ◌∙◌, subst, true≢false}
-use Rattle.std.proofs.lemmas.Bool.{eqb-true}
+use Rattle.std.proofs.Common.{◌≡◌, ℕ, Bool, true, false, not, cond, ◌&&◌, ◌==◌, nat_eq, Some, MatchOption, List, [], ◌∷◌, ◌++◌, length, take, refl, sym, ap, ◌∙◌, subst, true≢false}
+use Rattle.std.proofs.lemmas.Bool.{eqb-true, or_parts}
 use Rattle.std.specs.Cmp.Lexicographic.{pointwise}
 use Rattle.std.specs.List.{list_any}
 use Rattle.turtle_grammar.specs.Characters.{is_white, is_excluded, is_escape}
@@ -11,10 +11,6 @@ use Rattle.turtle_grammar.specs.Tokens.Found.{token}
 use Rattle.turtle_grammar.specs.declared.token.TokenKind.TheVariants.{Iri, String, LongString}
 use Rattle.turtle_words.specs.Words.{begins_white, ends_string}
 use Rattle.turtle_words.proofs.Runs.{after_all, is_fails, longest}
-
-neither : (a b : Bool) → a || b ≡ false → (a ≡ false) × (b ≡ false)
-neither true b h = cc
-neither false b h = (refl, h)
 
 -- a character of a class isn't one that lies outside it
 other : (class : ℕ → Bool) (c k : ℕ) → class c ≡ false → class k ≡ true → (c == k) ≡ false
@@ -63,7 +59,7 @@ iri_goes_on c h = by (is_excluded c) (c == 92) (c == 62) h (other is_excluded c 
 iri_body : (body : List ℕ) → list_any is_excluded body ≡ false → after_all (body ++ 62 ∷ []) iri_rest ≡ nothing
 iri_body [] h = iri_closes
 iri_body (c ∷ body) h =
-    let k = neither (is_excluded c) (list_any is_excluded body) h in
+    let k = or_parts (is_excluded c) (list_any is_excluded body) h in
     ap (after_all (body ++ 62 ∷ [])) (iri_goes_on c k.0) ∙ iri_body body k.1
 
 ended : (p : Pattern) → p ≡ nothing → (is_empty p ≡ true) × ((c : ℕ) → is_fails (after c p) ≡ true)
@@ -112,7 +108,7 @@ string_goes_on c h = by (ends_string c) (c == 92) (c == 34) h (other ends_string
 string_body : (body : List ℕ) → list_any ends_string body ≡ false → after_all (body ++ 34 ∷ []) string_rest ≡ nothing
 string_body [] h = string_closes
 string_body (c ∷ body) h =
-    let k = neither (ends_string c) (list_any ends_string body) h in
+    let k = or_parts (ends_string c) (list_any ends_string body) h in
     ap (after_all (body ++ 34 ∷ [])) (string_goes_on c k.0) ∙ string_body body k.1
 
 -- a quote, or two, and another character open a short string
@@ -134,7 +130,7 @@ opens_string : (body rest : List ℕ) → list_any ends_string body ≡ false �
 unfolding is_white
 opens_string [] [] h white = cc
 opens_string [] (c ∷ rest) h white = two_quotes c rest (another (λ c. not (is_white c)) c 34 (ap not white) refl)
-opens_string (c ∷ body) rest h white = one_quote c ((body ++ 34 ∷ []) ++ rest) (another ends_string c 34 (neither (ends_string c) (list_any ends_string body) h).0 refl)
+opens_string (c ∷ body) rest h white = one_quote c ((body ++ 34 ∷ []) ++ rest) (another ends_string c 34 (or_parts (ends_string c) (list_any ends_string body) h).0 refl)
 
 -- a string without an escape, before white space
 pub found_string : (body rest : List ℕ) → list_any ends_string body ≡ false → begins_white rest ≡ true

@@ -1,6 +1,6 @@
 -- What a pattern leaves after a text, and the longest front that it matches.
-use Rattle.std.proofs.Common.{◌≡◌, ◌⊎◌, inl, inr, ⊎_elim, ℕ, zero, suc, ◌<◌, ◌≤◌, Bool, true, false, not, cond, ◌&&◌, ◌||◌, ◌==◌, List, [], ◌∷◌, ◌++◌, length, take, refl, sym, ap, ◌∙◌, subst, true≢false, arith, length-append}
-use Rattle.std.proofs.lemmas.Bool.{cases_lt, eqb-true}
+use Rattle.std.proofs.Common.{◌≡◌, inl, inr, ⊎_elim, ℕ, zero, suc, ◌<◌, ◌≤◌, Bool, true, false, not, cond, ◌||◌, ◌==◌, List, [], ◌∷◌, ◌++◌, length, take, refl, sym, ap, ◌∙◌, subst, true≢false, arith, length-append}
+use Rattle.std.proofs.lemmas.Bool.{cases_lt, eqb-true, and_parts, or_cases}
 use Rattle.std.proofs.lemmas.List.{take_at}
 use Rattle.turtle_grammar.specs.Characters.{is_white, is_line_end}
 use Rattle.turtle_grammar.specs.Pattern.{Pattern, fails, nothing, one, ◌then◌, ◌or◌, many, is_empty, after, in_row, either, maybe, matches}
@@ -80,19 +80,15 @@ longest p t rest empty stops = (
 
 -- ---- white space
 
-first_of_two : (a b : Bool) → a || b ≡ true → (a ≡ true) ⊎ (b ≡ true)
-first_of_two true b h = inl refl
-first_of_two false b h = inr h
-
 pub white_is : (P : ℕ → Type 0) → P 32 → P 9 → P 13 → P 10 → (c : ℕ) → is_white c ≡ true → P c
 unfolding is_white
 white_is P space tab return feed c h =
     ⊎_elim (λ e. at 32 space e)
     (λ h. ⊎_elim (λ e. at 9 tab e)
     (λ h. ⊎_elim (λ e. at 13 return e)
-    (λ h. ⊎_elim (λ e. at 10 feed e) (λ never. absurd (true≢false (sym never))) (first_of_two (c == 10) false h)) (first_of_two (c == 13) (c == 10 || false) h))
-    (first_of_two (c == 9) (c == 13 || (c == 10 || false)) h))
-    (first_of_two (c == 32) (c == 9 || (c == 13 || (c == 10 || false))) h)
+    (λ h. ⊎_elim (λ e. at 10 feed e) (λ never. absurd (true≢false (sym never))) (or_cases (c == 10) false h)) (or_cases (c == 13) (c == 10 || false) h))
+    (or_cases (c == 9) (c == 13 || (c == 10 || false)) h))
+    (or_cases (c == 32) (c == 9 || (c == 13 || (c == 10 || false))) h)
   where
     at : (k : ℕ) → P k → (c == k) ≡ true → P c
     at k p e = subst P (sym (eqb-true c k e)) p
@@ -101,14 +97,10 @@ gap_goes_on : (c : ℕ) → is_white c ≡ true → after c gap ≡ gap
 unfolding gap is_white is_line_end
 gap_goes_on c h = white_is (λ c. after c gap ≡ gap) refl refl refl refl c h
 
-and_true : (a b : Bool) → a && b ≡ true → (a ≡ true) × (b ≡ true)
-and_true true b h = (refl, h)
-and_true false b h = cc
-
 pub gap_after : (g : List ℕ) → are_white g ≡ true → after_all g gap ≡ gap
 gap_after [] h = refl
 gap_after (c ∷ g) h =
-    let k = and_true (is_white c) (are_white g) h in
+    let k = and_parts (is_white c) (are_white g) h in
     ap (after_all g) (gap_goes_on c k.0) ∙ gap_after g k.1
 
 pub gap_empty : is_empty gap ≡ true

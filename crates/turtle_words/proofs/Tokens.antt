@@ -1,7 +1,7 @@
 -- Which texts are tokens wherever white space follows.
-use Rattle.std.proofs.Common.{◌≡◌, ℕ, ◌<◌, ◌≤◌, nat_lt, nat_le, Bool, true, false, ◌&&◌, ◌||◌, ◌==◌, None, List, [], ◌∷◌, ◌++◌, length, IsUtf8, codes, refl, sym, ap, ◌∙◌, subst, true≢false, arith, ltb-true, leb-true}
+use Rattle.std.proofs.Common.{◌≡◌, ℕ, ◌<◌, ◌≤◌, nat_lt, nat_le, Bool, true, false, ◌||◌, ◌==◌, None, List, [], ◌∷◌, ◌++◌, length, IsUtf8, codes, refl, sym, ap, ◌∙◌, subst, true≢false, arith, ltb-true, leb-true}
 use Rattle.std.specs.Prelude.{encode_utf8_all}
-use Rattle.std.proofs.lemmas.Bool.{eqb-true}
+use Rattle.std.proofs.lemmas.Bool.{eqb-true, and_parts, or_parts}
 use Rattle.std.proofs.lemmas.Str.{encode_ascii, encodes-chars, chars-append, IsUtf8-append, IsUtf8-from_is_utf8}
 use Rattle.std.specs.List.{list_any, list_all}
 use Rattle.std.specs.Str.{chars, is_utf8}
@@ -19,10 +19,6 @@ use lib.Utf8.{encode}
 
 -- ---- characters and bytes
 
-two : (a b : Bool) → a && b ≡ true → (a ≡ true) × (b ≡ true)
-two true b h = (refl, h)
-two false b h = cc
-
 -- a class of characters below 128
 abbrev IsLow : (ℕ → Bool) → Type 0
 IsLow class = (c : ℕ) → class c ≡ true → c < 128
@@ -30,7 +26,7 @@ IsLow class = (c : ℕ) → class c ≡ true → c < 128
 among_low : (ks : List ℕ) → list_all (λ k. nat_lt k 128) ks ≡ true → IsLow (among ks)
 among_low [] h c e = cc
 among_low (k ∷ ks) h c e =
-    let both = two (nat_lt k 128) (list_all (λ k. nat_lt k 128) ks) h in
+    let both = and_parts (nat_lt k 128) (list_all (λ k. nat_lt k 128) ks) h in
     by (c == k) refl e both.0 (λ e. among_low ks both.1 c e)
   where
     by : (b : Bool) → (c == k) ≡ b → b || among ks c ≡ true → nat_lt k 128 ≡ true → (among ks c ≡ true → c < 128) → c < 128
@@ -49,13 +45,10 @@ excluded_low c e = by (nat_le c 32) refl e
     by false more e = among_low excluded_marks refl c e
 
 -- what no byte of a text is, no character of it is
-or_false : (a b : Bool) → a || b ≡ false → b ≡ false
-or_false true b h = cc
-or_false false b h = h
 
 any_right : (class : ℕ → Bool) (a b : List ℕ) → list_any class (a ++ b) ≡ false → list_any class b ≡ false
 any_right class [] b h = h
-any_right class (c ∷ a) b h = any_right class a b (or_false (class c) (list_any class (a ++ b)) h)
+any_right class (c ∷ a) b h = any_right class a b (or_parts (class c) (list_any class (a ++ b)) h).1
 
 no_character : (class : ℕ → Bool) → IsLow class → (cs : List ℕ) → list_any class (encode_utf8_all cs) ≡ false → list_any class cs ≡ false
 no_character class low [] h = refl
@@ -76,7 +69,7 @@ no_excluded text = no_character_of is_excluded excluded_low text
 pub no_ending : (text : List ℕ) → IsUtf8 text → list_any ends_string text ≡ false → list_any ends_string (chars text) ≡ false
 no_ending text = no_character_of ends_string (among_low (34 ∷ 92 ∷ 10 ∷ 13 ∷ []) refl) text
 
--- ---- between two marks
+-- ---- between and_parts marks
 
 -- a mark is one character of one byte
 abbrev IsMark : ℕ → Type 0

@@ -53,7 +53,7 @@ pub record IsWord (word : Word) : Type 0 where
   pub white : are_white word.space ≡ true
   pub is_token : IsToken word.kind word.text
 
--- white space stands after each word: before each but the first, and behind the last
+-- white space stands after each word: before each but the first, and after the last
 abbrev pub AreSpaced : List Word → List ℕ → Type 0
 AreSpaced [] more = are_white more ≡ true
 AreSpaced (word ∷ words) more = (begins_white (written words more) ≡ true) × AreSpaced words more
