@@ -1,5 +1,5 @@
 -- Why work ends in a fault: of its first step, of the next, of one of many; and what the vault counts of that.
-use Rattle.std.proofs.Common.{◌≡◌, ◌⊎◌, ℕ, ◌+◌, ◌<◌, ◌≤◌, List, length, take, get_or, Result, Ok, Err, refl, sym, subst, arith, inl, inr}
+use Rattle.std.proofs.Common.{◌≡◌, ℕ, ◌<◌, ◌≤◌, List, length, take, get_or, Result, Ok, Err, refl, sym, subst, arith, inl, inr}
 use Rattle.lv_outside.specs.Count.{Rose}
 use Rattle.lv_outside.specs.World.{VaultState}
 use Rattle.session_script.specs.declared.fault.ScriptFault.{ScriptFault}

@@ -117,7 +117,7 @@ session-earlier : (v m : VaultState) (text : List ℕ → Option (List ℕ)) (se
 session-earlier v m text session end h x =
     then-as (ReadsAll m session.bundles) (ReadsAll v session.bundles) (λ bundles. Arranges text bundles session) (λ bundles. Arranges text bundles session) end
     (λ read. each-as (λ number folder. Told (Reads m number folder)) (λ number folder. Told (Reads v number folder))
-      (λ number folder one. told-earlier v m number folder one h) 0 session.bundles read)
+    (λ number folder one. told-earlier v m number folder one h) 0 session.bundles read)
     (λ bundles one same. same) x
 
 pub bytes-earlier : (v m : VaultState) (text : List ℕ → Option (List ℕ)) (bytes : List ℕ) (end : Result Loaded SetupFault) → IsLater v m

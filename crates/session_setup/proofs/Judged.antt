@@ -1,11 +1,11 @@
 -- How the declaration of an instance is come to, and its faults.
-use Rattle.std.proofs.Common.{◌≡◌, ◌≢◌, ◌⊎◌, ℕ, ◌+◌, ◌<◌, List, [], ◌∷◌, ◌++◌, length, take, slice_get, get_or, Option, Some, None, Result, Ok, Err, OnOk, All, length-append, refl, sym, ◌∙◌, subst, ap, inl, inr}
+use Rattle.std.proofs.Common.{◌≡◌, ◌≢◌, ℕ, ◌+◌, ◌<◌, List, [], ◌∷◌, ◌++◌, length, take, get_or, Option, Some, Result, Ok, Err, OnOk, All, length-append, refl, sym, ◌∙◌, subst, ap, inl, inr}
 use Rattle.std.proofs.lemmas.List.Elements.{All-push}
 use Rattle.std.proofs.lemmas.Option.{slice_get_read}
 use Rattle.lv_outside.specs.World.{VaultState}
 use Rattle.triple_store.specs.declared.term.Term.TheVariants.{Iri}
 use Rattle.triple_store.specs.declared.term.Triple.{Triple}
-use Rattle.turtle_document.specs.Answer.{Outcome, IsReadAs}
+use Rattle.turtle_document.specs.Answer.{IsReadAs}
 use Rattle.turtle_document.specs.Answer.Outcome.{document, not_utf8, unclosed, bad_byte, syntax, fault as faulty}
 use Rattle.turtle_document.specs.Meaning.{beginning}
 use Rattle.turtle_document.specs.Meaning.Fault.{no_prefix, bad_iri, too_deep, full_store}
@@ -15,10 +15,8 @@ use Rattle.turtle_read.specs.declared.fault.TurtleFault.{TurtleFault}
 use Rattle.turtle_read.specs.declared.fault.TurtleFault.TheVariants as turtle
 use Rattle.plugin_decl.specs.declared.declaration.Decl.{Decl}
 use Rattle.plugin_decl.specs.declared.declaration.DeclFault.{DeclFault}
-use Rattle.plugin_decl.specs.declared.declaration.DeclFault.TheVariants as decl
 use Rattle.plugin_decl.specs.Rules as rules
 use Rattle.plugin_decl.specs.Valid.{IsValid}
-use Rattle.session_load.specs.declared.fault.LoadFault.TheVariants.{NoMemory}
 use Rattle.session_script.specs.declared.session.Inst.{Inst}
 use Rattle.session_setup.specs.declared.fault.SetupFault.{SetupFault}
 use Rattle.session_setup.specs.declared.fault.SetupFault.TheVariants.{Load, Script, Undeclared, Graph}

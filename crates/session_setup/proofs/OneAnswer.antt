@@ -1,12 +1,10 @@
 -- The files of a known vault and the documents of codes give a session one answer.
-use Rattle.std.proofs.Common.{◌≡◌, ◌≢◌, ◌⊎◌, ℕ, ◌<◌, ◌≤◌, List, [], length, slice_get, Option, Some, None, Result, Ok, Err, IsTrue, refl, sym, ◌∙◌, ap, subst, arith, inl, inr}
+use Rattle.std.proofs.Common.{◌≡◌, ◌≢◌, ℕ, ◌<◌, ◌≤◌, List, [], length, slice_get, Option, Some, None, Result, Ok, Err, IsTrue, refl, sym, ◌∙◌, ap, subst, arith, inl, inr}
 use Rattle.lv_outside.specs.World.{VaultState}
 use Rattle.triple_store.specs.declared.term.Term.TheVariants.{Iri}
 use Rattle.triple_store.specs.declared.term.Triple.{Triple}
-use Rattle.turtle_document.specs.Answer.{Outcome}
 use Rattle.turtle_document.proofs.OneOutcome.{one_outcome}
 use Rattle.plugin_decl.specs.declared.declaration.Decl.{Decl}
-use Rattle.plugin_decl.specs.declared.declaration.DeclFault.{DeclFault}
 use Rattle.plugin_decl.proofs.Laws.{one_fault, not_both}
 use Rattle.session_script.specs.declared.fault.ScriptFault.{ScriptFault}
 use Rattle.session_script.specs.declared.fault.ScriptFault.TheVariants as script
@@ -18,8 +16,6 @@ use Rattle.session_script.specs.Valid.{IsValid}
 use Rattle.session_script.proofs.Laws as scripts
 use Rattle.session_script.proofs.Validity.{valid}
 use Rattle.graph_order.specs.Lines.{first_broken}
-use Rattle.graph_order.specs.declared.fault.GraphFault.{GraphFault}
-use Rattle.graph_order.specs.declared.plan.Plan.{Plan}
 use Rattle.graph_order.proofs.Laws as graphs
 use Rattle.graph_order.proofs.Answers.{not-both-of}
 use Rattle.session_load.specs.declared.fault.LoadFault.{LoadFault}
@@ -30,12 +26,11 @@ use Rattle.session_setup.specs.declared.fault.SetupFault.{SetupFault}
 use Rattle.session_setup.specs.declared.fault.SetupFault.TheVariants.{Load, Script, Undeclared, Graph}
 use Rattle.session_setup.specs.declared.loaded.Loaded.{Loaded}
 use Rattle.session_setup.specs.declared.newest.Declared.{Declared}
-use Rattle.session_setup.specs.Newest.{IsNowhere, IsNewest}
-use Rattle.session_setup.specs.Steps.{Then, Each}
+use Rattle.session_setup.specs.Steps.{Then}
 use Rattle.session_setup.specs.Faults.{Told}
 use Rattle.session_setup.specs.Declaring.{rows_of, HasRows, IsToldBy, Judges, Declares, DeclaresAll}
 use Rattle.session_setup.specs.Planning.{cycle_names, Plans}
-use Rattle.session_setup.specs.Loading.{IsUnfetched, Fetches, IsNoSession, Says, Reads, ReadsAll, loaded, Arranges, LoadsSession, LoadsBytes, LoadsFile}
+use Rattle.session_setup.specs.Loading.{Fetches, IsNoSession, Says, Reads, ReadsAll, loaded, Arranges, LoadsSession, LoadsBytes, LoadsFile}
 use Rattle.session_setup.specs.OneSetup.{IsOfFiles, IsGiven}
 use Rattle.session_setup.proofs.Steps.{Fine, HasOne, one-then, one-each}
 use Rattle.session_setup.proofs.Versions.{one_newest}
@@ -225,16 +220,16 @@ one-arranged text bundles session valid =
     one-then IsOfFiles (DeclaresAll text bundles session.block session.insts)
     (λ decls. Then (Plans session decls) (λ plan all. all ≡ Ok (loaded session decls plan)))
     (one-each IsOfFiles (λ number (inst : Inst). Declares text bundles session.block inst.uri)
-      (λ number inst. one-declared text bundles session.block inst.uri) 0 session.insts)
+    (λ number inst. one-declared text bundles session.block inst.uri) 0 session.insts)
     (λ decls given. one-then IsOfFiles (Plans session decls) (λ plan all. all ≡ Ok (loaded session decls plan)) (one-plan-of session decls valid)
-      (λ plan planned p q f g x y. x ∙ sym y))
+    (λ plan planned p q f g x y. x ∙ sym y))
 
 one-loaded-session : (v : VaultState) (text : List ℕ → Option (List ℕ)) (session : Session) → IsTrue v.tells → IsValid session
     → HasOne IsOfFiles (LoadsSession v text session)
 one-loaded-session v text session known valid =
     one-then IsOfFiles (ReadsAll v session.bundles) (λ bundles. Arranges text bundles session)
     (one-each IsOfFiles (λ number folder. Told (Reads v number folder))
-      (λ number folder. one-told (Reads v number folder) (one-read v number folder known)) 0 session.bundles)
+    (λ number folder. one-told (Reads v number folder) (one-read v number folder known)) 0 session.bundles)
     (λ bundles given. one-arranged text bundles session valid)
 
 one-loaded-bytes : (v : VaultState) (text : List ℕ → Option (List ℕ)) (bytes : List ℕ) → IsTrue v.tells → HasOne IsOfFiles (LoadsBytes v text bytes)

@@ -1,5 +1,5 @@
 -- The plan's faults.
-use Rattle.std.proofs.Common.{◌≡◌, ◌⊎◌, ℕ, ◌+◌, ◌<◌, ◌≤◌, List, [], ◌∷◌, ◌++◌, length, take, get_or, slice_get, All, Option, None, Result, Ok, Err, refl, sym, ◌∙◌, ap, subst, inl, inr, append_assoc, append-nil}
+use Rattle.std.proofs.Common.{◌≡◌, ℕ, ◌+◌, ◌<◌, ◌≤◌, List, [], ◌∷◌, ◌++◌, length, take, get_or, All, Option, Err, refl, sym, ◌∙◌, ap, subst, inl, inr, append_assoc, append-nil}
 use Rattle.std.proofs.lemmas.List.{take_more}
 use Rattle.std.proofs.lemmas.Option.{slice_get_past}
 use Rattle.std.proofs.lemmas.List.Elements.{filter_map-append}
@@ -17,7 +17,7 @@ use Rattle.graph_order.specs.Answer as answer
 use Rattle.session_setup.specs.declared.fault.SetupFault.{SetupFault}
 use Rattle.session_setup.specs.declared.fault.SetupFault.TheVariants.{Load, Script, Undeclared, Graph}
 use Rattle.session_setup.specs.Faults.{IsCause, IsCounted}
-use Rattle.session_setup.specs.Planning.{name_at, cycle_names, Plans, TellsOfGraph}
+use Rattle.session_setup.specs.Planning.{name_at, Plans, TellsOfGraph}
 use Rattle.session_setup.specs.Loading.{loaded}
 use Rattle.session_setup.specs.Loaded.{IsSound}
 

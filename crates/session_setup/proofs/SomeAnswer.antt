@@ -1,5 +1,5 @@
 -- The files of a known vault and the documents of codes give a session an answer.
-use Rattle.std.proofs.Common.{◌≡◌, ◌≢◌, ◌⊎◌, ℕ, ◌<◌, ◌≤◌, List, [], length, slice_get, get_or, Option, Some, None, Result, Ok, Err, IsTrue, refl, sym, inl, inr, ⊎_elim}
+use Rattle.std.proofs.Common.{◌≡◌, ◌⊎◌, ℕ, ◌<◌, ◌≤◌, List, [], length, get_or, Option, Some, None, Result, Ok, Err, IsTrue, refl, inl, inr}
 use Rattle.std.proofs.lemmas.Bool.{cases_lt}
 use Rattle.std.proofs.lemmas.Option.{slice_get-get_or}
 use Rattle.lv_outside.specs.World.{VaultState}
@@ -30,7 +30,7 @@ use Rattle.session_setup.specs.declared.fault.SetupFault.TheVariants.{Load, Scri
 use Rattle.session_setup.specs.declared.loaded.Loaded.{Loaded}
 use Rattle.session_setup.specs.declared.newest.Declared.{Declared}
 use Rattle.session_setup.specs.Newest.{Finds}
-use Rattle.session_setup.specs.Steps.{Then, Each}
+use Rattle.session_setup.specs.Steps.{Then}
 use Rattle.session_setup.specs.Faults.{Told}
 use Rattle.session_setup.specs.Declaring.{rows_of, HasRows, IsToldBy, Judges, Declares, DeclaresAll}
 use Rattle.session_setup.specs.Planning.{cycle_names, Plans}
@@ -119,9 +119,9 @@ some-arranged text bundles session valid =
     some-then IsOfFiles (DeclaresAll text bundles session.block session.insts)
     (λ decls. Then (Plans session decls) (λ plan all. all ≡ Ok (loaded session decls plan)))
     (some-each IsOfFiles (λ number (inst : Inst). Declares text bundles session.block inst.uri)
-      (λ number inst. some-declared text bundles session.block inst.uri) 0 session.insts)
+    (λ number inst. some-declared text bundles session.block inst.uri) 0 session.insts)
     (λ decls given. some-then IsOfFiles (Plans session decls) (λ plan all. all ≡ Ok (loaded session decls plan)) (some-plan session decls valid)
-      (λ plan planned. (Ok (loaded session decls plan), tt, refl)))
+    (λ plan planned. (Ok (loaded session decls plan), tt, refl)))
 
 some-loaded-session : (v : VaultState) (text : List ℕ → Option (List ℕ)) (session : Session) → IsTrue v.tells → IsValid session
     → HasSome IsOfFiles (LoadsSession v text session)

@@ -1,5 +1,5 @@
 -- Work step by step: how a loop comes to it, what holds of its faults, and that it ends in one way.
-use Rattle.std.proofs.Common.{◌≡◌, ◌⊎◌, ℕ, ◌+◌, ◌<◌, List, [], ◌∷◌, ◌++◌, length, take, drop, get_or, Result, Ok, Err, refl, sym, ◌∙◌, ap, subst, arith, inl, inr, add-zero, zero-add, add-one, ◌≤◌}
+use Rattle.std.proofs.Common.{◌≡◌, ℕ, ◌+◌, ◌<◌, List, [], ◌∷◌, ◌++◌, length, take, drop, get_or, Result, Ok, Err, refl, sym, ◌∙◌, ap, subst, arith, inl, inr, add-zero, zero-add, add-one, ◌≤◌}
 use Rattle.std.proofs.lemmas.List.{take_more, take-append-drop, take_all, length-take-le}
 use Rattle.std.proofs.Math.Seq.{drop-cons}
 use Rattle.session_setup.specs.Steps.{Then, Each}
@@ -93,7 +93,7 @@ each-as {A = A} {E = E} Step Step' step n (x ∷ xs) end h =
     then-as (Step n x) (Step' n x) (λ value. Then (λ rest. Each Step (n + 1) xs rest) (All value)) (λ value. Then (λ rest. Each Step' (n + 1) xs rest) (All value)) end
     (step n x)
     (λ value more. then-as (λ rest. Each Step (n + 1) xs rest) (λ rest. Each Step' (n + 1) xs rest) (All value) (All value) more
-      (λ rest. each-as Step Step' step (n + 1) xs rest) (λ values all same. same))
+    (λ rest. each-as Step Step' step (n + 1) xs rest) (λ values all same. same))
     h
 
 -- ---- at most one end, of those that are fine

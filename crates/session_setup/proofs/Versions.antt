@@ -1,5 +1,5 @@
 -- Which of two versions is greater, and the bundle that counts among one more.
-use Rattle.std.proofs.Common.{◌≡◌, ℕ, zero, suc, add-one, ◌+◌, ◌<◌, ◌≤◌, ◌⊎◌, Bool, true, false, List, length, get_or, Option, Some, None, option_and_then, refl, sym, ◌∙◌, ap, subst, arith, inl, inr, ⊎_elim, if◌then◌else◌}
+use Rattle.std.proofs.Common.{◌≡◌, ℕ, zero, suc, add-one, ◌+◌, ◌<◌, ◌⊎◌, Bool, true, false, List, length, get_or, Option, Some, None, option_and_then, refl, sym, ◌∙◌, ap, subst, arith, ⊎_elim, if◌then◌else◌}
 use Rattle.std.proofs.lemmas.Bool.Decides.{nat_tests}
 use Rattle.std.proofs.lemmas.Option.{slice_get_read}
 use Rattle.triple_store.specs.declared.term.Triple.{Triple}
@@ -136,13 +136,14 @@ one_newest bundles uri n (Some a) None x y = absurd (none-some a.version _ (y a.
 one_newest bundles uri n (Some a) (Some b) x y = ap Some (⊎_elim
     (λ (lt : a.place < b.place). absurd (ordered bundles uri n a b x y lt))
     (λ (rest : (b.place < a.place) ⊎ (a.place ≡ b.place)). ⊎_elim
-      (λ (gt : b.place < a.place). absurd (ordered bundles uri n b a y x gt))
-      (λ (eq : a.place ≡ b.place). same bundles uri a b x.declared y.declared eq) rest)
+    (λ (gt : b.place < a.place). absurd (ordered bundles uri n b a y x gt))
+    (λ (eq : a.place ≡ b.place). same bundles uri a b x.declared y.declared eq) rest)
     (lt_cases a.place b.place))
 
 pub some_newest : (bundles : List (List Triple)) (uri : List ℕ) (n : ℕ) → (found : Option Declared) × Finds bundles uri n found
 some_newest bundles uri zero = (None, λ place within. absurd (omega (arith, within)))
 some_newest bundles uri (suc n) =
-    let before = some_newest bundles uri n in
-    (newer before.0 n (version_at bundles uri n),
-      subst (λ k. Finds bundles uri k (newer before.0 n (version_at bundles uri n))) (add-one n) (more bundles uri n before.0 (version_at bundles uri n) refl before.1))
+    let before = some_newest bundles uri n in (
+      newer before.0 n (version_at bundles uri n),
+      subst (λ k. Finds bundles uri k (newer before.0 n (version_at bundles uri n))) (add-one n) (more bundles uri n before.0 (version_at bundles uri n) refl before.1),
+    )

@@ -1,12 +1,11 @@
 -- The whole work: what comes of each part is what comes of the whole.
-use Rattle.std.proofs.Common.{◌≡◌, ◌⊎◌, ℕ, List, Option, Result, Ok, Err, IfOk, IfErr, refl, subst, inl, inr}
+use Rattle.std.proofs.Common.{◌≡◌, ℕ, List, Option, Result, Ok, Err, IfOk, IfErr, refl, subst, inl, inr}
 use Rattle.lv_outside.specs.World.{VaultState}
 use Rattle.triple_store.specs.declared.term.Triple.{Triple}
 use Rattle.plugin_decl.specs.declared.declaration.Decl.{Decl}
 use Rattle.session_script.specs.declared.session.Session.{Session}
 use Rattle.graph_order.specs.declared.plan.Plan.{Plan}
 use Rattle.session_load.specs.Bundle.{IsLater, IsFile}
-use Rattle.session_load.specs.declared.fault.LoadFault.TheVariants.{NoMemory}
 use Rattle.session_setup.specs.declared.fault.SetupFault.{SetupFault}
 use Rattle.session_setup.specs.declared.fault.SetupFault.TheVariants.{Load, Script, Undeclared, Graph}
 use Rattle.session_setup.specs.declared.loaded.Loaded.{Loaded}

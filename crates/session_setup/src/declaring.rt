@@ -83,19 +83,41 @@ fn declaration_by_code<C: Codes>(
     ensures valid { IfOk result IsValid }
     ensures err { IfErr result (IsCause (DeclaresByCode (C.meaning codes.now).text block uri.now)) }
 {
-    let rows = rows_by_code(alloc, codes, uri)?;
-    judge(alloc, &rows, uri, block)
+    let mut rows = Store::new(alloc);
+    declaration_over(alloc, codes, uri, block, &mut rows)
 }
 
-/// The triples of the document that comes with the code of a plug-in. There are none where none comes, or where it is no document.
-fn rows_by_code<C: Codes>(alloc: Global, codes: &C, uri: &Text) -> Result<Store, NoMemory>
-    ensures { IfOk result (HasRows ((C.meaning codes.now).text uri.now)) }
+/// The same over a store without rows, to which those of the code are added.
+fn declaration_over<C: Codes>(
+    alloc: Global,
+    codes: &C,
+    uri: &Text,
+    block: u32,
+    rows: &mut Store,
+) -> Result<Decl, SetupFault>
+    requires { rows.old ≡ [] }
+    ensures ok { IfOk result (λ decl. DeclaresByCode (C.meaning codes.now).text block uri.now (Ok decl)) }
+    ensures valid { IfOk result IsValid }
+    ensures err { IfErr result (IsCause (DeclaresByCode (C.meaning codes.now).text block uri.now)) }
 {
-    let mut rows = Store::new(alloc);
-    if let Some(text) = codes.text(uri) {
-        read_text(alloc, text, &mut rows)?;
+    read_rows(alloc, codes, uri, rows)?;
+    judge(alloc, rows, uri, block)
+}
+
+/// Adds the triples of the document that comes with the code of a plug-in. There are none where none comes, or where it is no document.
+fn read_rows<C: Codes>(
+    alloc: Global,
+    codes: &C,
+    uri: &Text,
+    rows: &mut Store,
+) -> Result<(), NoMemory>
+    requires { rows.old ≡ [] }
+    ensures { OnOk result (HasRows ((C.meaning codes.now).text uri.now) rows.new) }
+{
+    match codes.text(uri) {
+        Some(text) => read_text(alloc, text, rows),
+        None => Ok(()),
     }
-    Ok(rows)
 }
 
 fn read_text(alloc: Global, text: &[u8], rows: &mut Store) -> Result<(), NoMemory>
@@ -129,15 +151,23 @@ fn judge(alloc: Global, rows: &Store, uri: &Text, block: u32) -> Result<Decl, Se
     }
 }
 
-/// A fault of a plug-in's declaration. The plug-in's name is copied, for which memory may be short.
+/// A fault of a plug-in's declaration.
 fn undeclared(uri: &Text, fault: DeclFault) -> SetupFault
     ensures { TellsOf uri.now fault result }
 {
+    match name_of(uri, &fault) {
+        Ok(uri) => SetupFault::Undeclared { uri, fault },
+        Err(NoMemory) => SetupFault::Load(LoadFault::NoMemory),
+    }
+}
+
+/// The name of a plug-in that breaks a rule. Want of memory answers itself.
+fn name_of(uri: &Text, fault: &DeclFault) -> Result<Text, NoMemory>
+    ensures name { IfOk result (λ name. name ≡ uri.now) }
+    ensures some { OnOk result (fault.now ≢ DeclFault.NoMemory) }
+{
     match fault {
-        DeclFault::NoMemory => SetupFault::Load(LoadFault::NoMemory),
-        fault => match uri.clone() {
-            Ok(uri) => SetupFault::Undeclared { uri, fault },
-            Err(_) => SetupFault::Load(LoadFault::NoMemory),
-        },
+        DeclFault::NoMemory => Err(NoMemory),
+        _ => Ok(uri.clone()?),
     }
 }

@@ -14,7 +14,10 @@ pub enum SetupFault {
     /// The session file says no session.
     Script(ScriptFault),
     /// The plug-in of an instance isn't declared, or its declaration breaks a rule.
-    Undeclared { uri: Text, fault: DeclFault },
+    Undeclared {
+        uri: Text,
+        fault: DeclFault,
+    },
     /// There is no plan. Of a cycle these are the names of its instances, in its order; of a line there are none.
     Graph {
         fault: GraphFault,

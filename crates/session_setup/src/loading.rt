@@ -150,7 +150,13 @@ fn arrange_over<C: Codes>(
     ensures sound { IfOk result (λ made. IsSound (loaded session.now made.decls made.plan)) }
     ensures err { IfErr result (IsCause (Arranges (C.meaning codes.now).text bundles.now session.now)) }
 {
-    let decls = declare_all(alloc, session.insts.as_slice(), bundles, codes, session.block)?;
+    let decls = declare_all(
+        alloc,
+        session.insts.as_slice(),
+        bundles,
+        codes,
+        session.block,
+    )?;
     let plan = plan_of(alloc, session, decls.as_slice())?;
     Ok(Arrangement { decls, plan })
 }

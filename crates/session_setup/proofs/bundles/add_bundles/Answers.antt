@@ -6,10 +6,9 @@ use Rattle.session_setup.proofs.bundles.add_bundles.Goals as goal
 pub loop-number-preserved : goal.loop-number-preserved
 loop-number-preserved g c =
     let at = g.V.Vault.state in
-    let last = c.bundle.ensures in
-    (
+    let last = c.bundle.ensures in (
       later-then _ _ _ c.loop-number.invariant.0
-      (record { known = last.known; files = last.files; faults = last.later; absences = last.absences; longs = last.longs }),
+          (record { known = last.known; files = last.files; faults = last.later; absences = last.absences; longs = last.longs }),
       reads-more (at c.args.vault.now) (at c.loop-number.vault) c.args.folders.now c.loop-number.number c.index-folders-number.result c.loop-number.bundles c.push.new.self c.in_ok-rows.rows
           c.loop-number.invariant.0 c.loop-number-test.true c.index-folders-number.is c.in_ok-push.ensures.ok c.loop-number.invariant.1 c.in_ok-rows.ensures.ok,
     )

@@ -1,4 +1,3 @@
-use Rattle.std.proofs.Common.{arith}
 use Rattle.std.proofs.lemmas.Result.{err_from_is_err_and}
 use Rattle.session_setup.proofs.Judged.{declares-more, declares-stop, valid-more, length-more}
 use Rattle.session_setup.proofs.declaring.add_declarations.Goals as goal

@@ -1,6 +1,4 @@
-use Rattle.std.proofs.Common.{subst}
 use Rattle.session_setup.proofs.Versions.{newer-finds}
-use Rattle.session_setup.specs.Newest.{Finds, newer}
 use Rattle.session_setup.proofs.newest.newest.Goals as goal
 
 pub loop-place-preserved : goal.loop-place-preserved
