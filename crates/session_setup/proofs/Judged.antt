@@ -23,7 +23,7 @@ use Rattle.session_setup.specs.declared.fault.SetupFault.TheVariants.{Load, Scri
 use Rattle.session_setup.specs.declared.newest.Declared.{Declared}
 use Rattle.session_setup.specs.Newest.{IsNowhere, IsNewest}
 use Rattle.session_setup.specs.Faults.{IsCause, IsCounted}
-use Rattle.session_setup.specs.Declaring.{code_folder, HasRows, Judges, Declares, DeclaresByCode, DeclaresAll, TellsOf}
+use Rattle.session_setup.specs.Declaring.{code_folder, HasRowsOfText, Judges, Declares, DeclaresByCode, DeclaresAll, TellsOf}
 use Rattle.session_setup.proofs.Steps.{each-fault, each-more}
 use Rattle.session_setup.proofs.Causes.{cause-each}
 
@@ -31,7 +31,7 @@ use Rattle.session_setup.proofs.Causes.{cause-each}
 
 -- it is none
 unread : (bytes : List ℕ) (rows : List Triple) (why : TurtleFault) → why ≢ turtle.NoMemory → Tells (IsReadAs (beginning code_folder []) bytes) why
-    → rows ≡ [] → HasRows (Some bytes) rows
+    → rows ≡ [] → HasRowsOfText (Some bytes) rows
 unread bytes rows (turtle.Lex (lex.NotUtf8 at)) some h e = (not_utf8 at, h, e)
 unread bytes rows (turtle.Lex (lex.Unclosed at)) some h e = (unclosed at, h, e)
 unread bytes rows (turtle.Lex (lex.BadByte at)) some h e = (bad_byte at, h, e)
@@ -43,14 +43,14 @@ unread bytes rows (turtle.StoreFull at) some h e = (faulty (full_store at), h, e
 unread bytes rows turtle.NoMemory some h e = absurd (some refl)
 
 answered : (bytes : List ℕ) (rows : List Triple) (answer : Result ℕ TurtleFault) → answer ≢ Err turtle.NoMemory
-    → ReadsDocument (beginning code_folder []) bytes answer rows → HasRows (Some bytes) rows
+    → ReadsDocument (beginning code_folder []) bytes answer rows → HasRowsOfText (Some bytes) rows
 answered bytes rows (Ok count) some h = (document rows, h.0, refl)
 answered bytes rows (Err why) some h = unread bytes rows why (λ e. some (ap Err e)) h.0 h.1
 
 -- it was read or refused
 pub text-answered : {T E : Type 0} (base : List ℕ) (bytes : List ℕ) (old rows : List Triple) (answer : Result ℕ TurtleFault) (r : Result T E)
     → base ≡ code_folder → old ≡ [] → ReadsDocument (beginning base old) bytes answer rows → OnOk r (answer ≢ Err turtle.NoMemory)
-    → OnOk r (HasRows (Some bytes) rows)
+    → OnOk r (HasRowsOfText (Some bytes) rows)
 text-answered base bytes old rows answer (Ok done) e none h some =
     answered bytes rows answer some
     (subst (λ folder. ReadsDocument (beginning folder []) bytes answer rows) e (subst (λ (before : List Triple). ReadsDocument (beginning base before) bytes answer rows) none h))

@@ -28,10 +28,10 @@ use Rattle.session_setup.specs.declared.loaded.Loaded.{Loaded}
 use Rattle.session_setup.specs.declared.newest.Declared.{Declared}
 use Rattle.session_setup.specs.Steps.{Then}
 use Rattle.session_setup.specs.Faults.{Told}
-use Rattle.session_setup.specs.Declaring.{rows_of, HasRows, IsToldBy, Judges, Declares, DeclaresAll}
+use Rattle.session_setup.specs.Declaring.{rows_of, HasRowsOfText, IsToldBy, Judges, Declares, DeclaresAll}
 use Rattle.session_setup.specs.Planning.{cycle_names, Plans}
 use Rattle.session_setup.specs.Loading.{Fetches, IsNoSession, Says, Reads, ReadsAll, loaded, Arranges, LoadsSession, LoadsBytes, LoadsFile}
-use Rattle.session_setup.specs.OneSetup.{IsOfFiles, IsGiven}
+use Rattle.session_setup.specs.OneSetup.{IsOfFiles, IsGiven, HasOneEnd, HasOneSetup, HasOneSetupOfBytes}
 use Rattle.session_setup.proofs.Steps.{Fine, HasOne, one-then, one-each}
 use Rattle.session_setup.proofs.Versions.{one_newest}
 
@@ -150,7 +150,7 @@ one-said bytes (Err (Graph a names)) z f g x y = absurd x
 
 -- ---- declarations
 
-one-rows-of-text : (text : Option (List ℕ)) (a b : List Triple) → HasRows text a → HasRows text b → a ≡ b
+one-rows-of-text : (text : Option (List ℕ)) (a b : List Triple) → HasRowsOfText text a → HasRowsOfText text b → a ≡ b
 one-rows-of-text None a b x y = x ∙ sym y
 one-rows-of-text (Some bytes) a b x y = x.2 ∙ (ap rows_of (one_outcome _ [] bytes x.0 y.0 x.1 y.1) ∙ sym y.2)
 
@@ -246,6 +246,11 @@ fine : (end : Result Loaded SetupFault) → IsGiven end → Fine IsOfFiles end
 fine (Ok made) g = tt
 fine (Err fault) g = g
 
-pub one_setup : (v : VaultState) (text : List ℕ → Option (List ℕ)) (path : List ℕ) (a b : Result Loaded SetupFault) → IsTrue v.tells
-    → IsGiven a → IsGiven b → LoadsFile v text path a → LoadsFile v text path b → a ≡ b
-one_setup v text path a b known f g x y = one-loaded v text path known a b (fine a f) (fine b g) x y
+one-end : (Work : Result Loaded SetupFault → Type 0) → HasOne IsOfFiles Work → HasOneEnd Work
+one-end Work one a b f g x y = one a b (fine a f) (fine b g) x y
+
+pub one_setup : HasOneSetup
+one_setup v text path known = one-end (LoadsFile v text path) (one-loaded v text path known)
+
+pub one_setup_of_bytes : HasOneSetupOfBytes
+one_setup_of_bytes v text bytes known = one-end (LoadsBytes v text bytes) (one-loaded-bytes v text bytes known)

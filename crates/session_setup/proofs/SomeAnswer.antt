@@ -32,10 +32,10 @@ use Rattle.session_setup.specs.declared.newest.Declared.{Declared}
 use Rattle.session_setup.specs.Newest.{Finds}
 use Rattle.session_setup.specs.Steps.{Then}
 use Rattle.session_setup.specs.Faults.{Told}
-use Rattle.session_setup.specs.Declaring.{rows_of, HasRows, IsToldBy, Judges, Declares, DeclaresAll}
+use Rattle.session_setup.specs.Declaring.{rows_of, HasRowsOfText, IsToldBy, Judges, Declares, DeclaresAll}
 use Rattle.session_setup.specs.Planning.{cycle_names, Plans}
 use Rattle.session_setup.specs.Loading.{Fetches, Says, Reads, ReadsAll, loaded, Arranges, LoadsSession, LoadsBytes, LoadsFile}
-use Rattle.session_setup.specs.OneSetup.{IsOfFiles, IsGiven}
+use Rattle.session_setup.specs.OneSetup.{IsOfFiles, IsGiven, HasSomeEnd, HasSomeSetup, HasSomeSetupOfBytes}
 use Rattle.session_setup.proofs.Steps.{Fine, HasSome, some-then, some-each}
 use Rattle.session_setup.proofs.Versions.{some_newest}
 use Rattle.session_setup.proofs.OneAnswer.{said-valid}
@@ -78,7 +78,7 @@ some-said bytes = by-script bytes (existence.some_answer bytes)
 
 -- ---- declarations
 
-some-rows-of-text : (text : Option (List ℕ)) → (rows : List Triple) × HasRows text rows
+some-rows-of-text : (text : Option (List ℕ)) → (rows : List Triple) × HasRowsOfText text rows
 some-rows-of-text None = ([], refl)
 some-rows-of-text (Some bytes) = let o = every_outcome _ [] bytes in (rows_of o.0, (o.0, o.1, refl))
 
@@ -143,6 +143,11 @@ given : (end : Result Loaded SetupFault) → Fine IsOfFiles end → IsGiven end
 given (Ok made) f = tt
 given (Err fault) f = f
 
-pub some_setup : (v : VaultState) (text : List ℕ → Option (List ℕ)) (path : List ℕ) → IsTrue v.tells
-    → (a : Result Loaded SetupFault) × IsGiven a × LoadsFile v text path a
-some_setup v text path known = let some = some-loaded v text path known in (some.0, given some.0 some.1, some.2)
+some-end : (Work : Result Loaded SetupFault → Type 0) → HasSome IsOfFiles Work → HasSomeEnd Work
+some-end Work some = (some.0, given some.0 some.1, some.2)
+
+pub some_setup : HasSomeSetup
+some_setup v text path known = some-end (LoadsFile v text path) (some-loaded v text path known)
+
+pub some_setup_of_bytes : HasSomeSetupOfBytes
+some_setup_of_bytes v text bytes known = some-end (LoadsBytes v text bytes) (some-loaded-bytes v text bytes known)

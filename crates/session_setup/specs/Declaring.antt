@@ -28,15 +28,15 @@ rows_of (document rows) = rows
 rows_of other = []
 
 -- the triples of the document that comes with a code, if one does
-abbrev pub HasRows : Option (List ℕ) → List Triple → Type 0
-HasRows None rows = rows ≡ []
-HasRows (Some bytes) rows = (outcome : Outcome) × IsReadAs (beginning code_folder []) bytes outcome × (rows ≡ rows_of outcome)
+abbrev pub HasRowsOfText : Option (List ℕ) → List Triple → Type 0
+HasRowsOfText None rows = rows ≡ []
+HasRowsOfText (Some bytes) rows = (outcome : Outcome) × IsReadAs (beginning code_folder []) bytes outcome × (rows ≡ rows_of outcome)
 
 -- the triples that tell of a plug-in: those of the bundle that counts, or, where no bundle declares it, those of its code's document
 abbrev pub IsToldBy : (List ℕ → Option (List ℕ)) → List (List Triple) → List ℕ → List Triple → Type 0
 IsToldBy text bundles uri rows =
     ((found : Declared) × IsNewest bundles uri (length bundles) found × (slice_get bundles found.place ≡ Some rows))
-    ⊎ (IsNowhere bundles uri (length bundles) × HasRows (text uri) rows)
+    ⊎ (IsNowhere bundles uri (length bundles) × HasRowsOfText (text uri) rows)
 
 -- what triples declare of a plug-in, for blocks of this length, or the first rule that they break
 abbrev pub Judges : List Triple → List ℕ → ℕ → Result Decl SetupFault → Type 0
@@ -56,7 +56,7 @@ DeclaresAll text bundles block insts end = Each (λ number (inst : Inst). Declar
 
 -- what the document that comes with a code declares
 abbrev pub DeclaresByCode : (List ℕ → Option (List ℕ)) → ℕ → List ℕ → Result Decl SetupFault → Type 0
-DeclaresByCode text block uri end = (rows : List Triple) × HasRows (text uri) rows × Judges rows uri block end
+DeclaresByCode text block uri end = (rows : List Triple) × HasRowsOfText (text uri) rows × Judges rows uri block end
 
 -- a fault of a plug-in's declaration is told of the plug-in, or memory was refused
 abbrev pub TellsOf : List ℕ → DeclFault → SetupFault → Type 0

@@ -1,6 +1,6 @@
 ghost use Rattle.std.specs.Prelude.{◌≡◌, ◌≢◌, [], All, Some, length, IfOk, IfErr, OnOk};
 ghost use Rattle.plugin_decl.specs.Valid.{IsValid};
-ghost use Rattle.session_setup.specs.Declaring.{HasRows, Judges, Declares, DeclaresByCode, DeclaresAll, TellsOf};
+ghost use Rattle.session_setup.specs.Declaring.{HasRowsOfText, Judges, Declares, DeclaresByCode, DeclaresAll, TellsOf};
 ghost use Rattle.session_setup.specs.Faults.{IsCause};
 
 use crate::fault::SetupFault;
@@ -112,7 +112,7 @@ fn read_rows<C: Codes>(
     rows: &mut Store,
 ) -> Result<(), NoMemory>
     requires { rows.old ≡ [] }
-    ensures { OnOk result (HasRows ((C.meaning codes.now).text uri.now) rows.new) }
+    ensures { OnOk result (HasRowsOfText ((C.meaning codes.now).text uri.now) rows.new) }
 {
     match codes.text(uri) {
         Some(text) => read_text(alloc, text, rows),
@@ -122,7 +122,7 @@ fn read_rows<C: Codes>(
 
 fn read_text(alloc: Global, text: &[u8], rows: &mut Store) -> Result<(), NoMemory>
     requires { rows.old ≡ [] }
-    ensures { OnOk result (HasRows (Some text.now) rows.new) }
+    ensures { OnOk result (HasRowsOfText (Some text.now) rows.new) }
 {
     let folder = Text::from_str(alloc, "file:///code/")?;
     let answer = read(alloc, &folder, text, rows);
