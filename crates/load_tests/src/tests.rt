@@ -26,6 +26,9 @@ const THREE: &str =
 const FOUR: &str =
     "\nfour/manifest.ttl @prefix lv2: <http://lv2plug.in/ns/lv2core#> . <urn:p> lv2:minorVersion 9 .";
 
+const STOCK: &str =
+    "s lv2fx 1 / inst a urn:lv2fx:const / inst b urn:lv2fx:amp / inst c urn:lv2fx:mix / inst d urn:lv2fx:echo / inst e urn:lv2fx:fetch / inst f urn:lv2fx:burst / inst g urn:lv2fx:keep";
+
 /// A circle over two of three stock codes.
 const CIRCLE: &str =
     "s lv2fx 1 / block 1 / blocks 4 / inst c urn:lv2fx:const / inst a urn:lv2fx:mix / inst b urn:lv2fx:amp / set c value 0.25 / set b gain 0.5 / cable c out a a / cable a out b in / cable b out a b";
@@ -113,20 +116,44 @@ fn fault_text(alloc: Global, fault: &SetupFault) -> Result<String, Fail> {
     }
 }
 
-/// What the session in the file `s` answers, where these calls fail.
-fn answer(alloc: Global, files: &str, fails: &[u64]) -> Result<String, Fail> {
-    let mut vault = MemVault::new(alloc, stored(alloc, files)?, fails.to_vec(alloc)?);
+/// Loads the session in the file `s`, where these calls fail.
+fn load_stored(
+    alloc: Global,
+    files: &str,
+    fails: &[u64],
+) -> Result<Result<Loaded, SetupFault>, Fail> {
     let path = Text::from_str(alloc, "s")?;
-    match load(alloc, &path, &mut vault, &Stock) {
-        Ok(loaded) => loaded_text(alloc, &loaded),
-        Err(fault) => fault_text(alloc, &fault),
+    let fails = fails.to_vec(alloc)?;
+    let mut vault = MemVault::new(alloc, stored(alloc, files)?, fails);
+    Ok(load(alloc, &path, &mut vault, &Stock))
+}
+
+fn answer_text(alloc: Global, answer: &Result<Loaded, SetupFault>) -> Result<String, Fail> {
+    match answer {
+        Ok(loaded) => loaded_text(alloc, loaded),
+        Err(fault) => fault_text(alloc, fault),
     }
 }
 
-fn answers(rt: &impl Abort, alloc: Global, files: &str, wanted: &str) -> Result<(), Fail> {
-    let text = answer(alloc, files, &[])?;
+fn answer(alloc: Global, files: &str, fails: &[u64]) -> Result<String, Fail> {
+    let answer = load_stored(alloc, files, fails)?;
+    answer_text(alloc, &answer)
+}
+
+fn answers_where(
+    rt: &impl Abort,
+    files: &str,
+    fails: &[u64],
+    alloc: Global,
+    wanted: &str,
+) -> Result<(), Fail> {
+    let text = answer(alloc, files, fails)?;
     assert_eq!(rt; text.as_str(), wanted, "{files}");
     Ok(())
+}
+
+fn answers(rt: &impl Abort, alloc: Global, files: &str, wanted: &str) -> Result<(), Fail> {
+    answers_where(rt, files, &[], alloc, wanted)
 }
 
 /// The files of the session with four bundles, three of which end so.
@@ -206,10 +233,8 @@ fn faults_in_the_order_of_work(rt: HostRuntime) -> Result<(), Fail> {
 fn reads_that_fail(rt: HostRuntime) -> Result<(), Fail> {
     let alloc = rt.alloc();
     let files = bundled(alloc, ".", ".", ".")?;
-    let first = answer(alloc, &files, &[0])?;
-    assert_eq!(rt; first.as_str(), "read failed s");
-    let third = answer(alloc, &files, &[2])?;
-    assert_eq!(rt; third.as_str(), "read failed two/manifest.ttl");
+    answers_where(&rt, &files, &[0], alloc, "read failed s")?;
+    answers_where(&rt, &files, &[2], alloc, "read failed two/manifest.ttl")?;
     one_newest();
     one_setup();
     some_setup();
@@ -217,14 +242,27 @@ fn reads_that_fail(rt: HostRuntime) -> Result<(), Fail> {
 }
 
 #[test]
+fn every_stock_code_is_declared(rt: HostRuntime) -> Result<(), Fail> {
+    answers(
+        &rt,
+        rt.alloc(),
+        STOCK,
+        "ok Constant Amplifier Mixer Echo Fetch Burst Keep 0 1 2 3 4 5 6",
+    )
+}
+
+/// How many declarations a setup without restores has.
+fn declarations_in(alloc: Global, loaded: Loaded) -> usize {
+    let setup = loaded.with_states(Items::new(alloc));
+    setup.decls.len()
+}
+
+#[test]
 fn a_setup_without_restores(rt: HostRuntime) -> Result<(), Fail> {
-    let alloc = rt.alloc();
-    let files = stored(alloc, "s lv2fx 1 / inst c urn:lv2fx:const")?;
-    let mut vault = MemVault::new(alloc, files, Vec::new(alloc));
-    let path = Text::from_str(alloc, "s")?;
-    if let Ok(loaded) = load(alloc, &path, &mut vault, &Stock) {
-        let setup = loaded.with_states(Items::new(alloc));
-        assert_eq!(rt; setup.decls.len(), 1);
-    }
+    let declared = match load_stored(rt.alloc(), "s lv2fx 1 / inst c urn:lv2fx:const", &[])? {
+        Ok(loaded) => declarations_in(rt.alloc(), loaded),
+        Err(_) => 0,
+    };
+    assert_eq!(rt; declared, 1);
     Ok(())
 }
