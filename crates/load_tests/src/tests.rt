@@ -1,5 +1,5 @@
 //! What loading a session answers, as a text: the plug-ins' names and the plan, or the first fault.
-use graph_order::GraphFault;
+use graph_order::{GraphFault, Setup};
 use lv_base::{Bytes, Items, Text};
 use lv_outside::MemVault;
 use plugin_decl::{Decl, DeclFault};
@@ -76,10 +76,10 @@ fn push_declared(text: &mut String, decls: &[Decl]) -> Result<(), Fail> {
 }
 
 /// The names of the plug-ins, and the order in which the instances run.
-fn loaded_text(alloc: Global, loaded: &Loaded) -> Result<String, Fail> {
+fn setup_text(alloc: Global, setup: &Setup) -> Result<String, Fail> {
     let mut text = String::from_str(alloc, "ok")?;
-    push_declared(&mut text, loaded.decls.as_slice())?;
-    for inst in loaded.plan.order.as_slice() {
+    push_declared(&mut text, setup.decls.as_slice())?;
+    for inst in setup.plan.order.as_slice() {
         let place = format!(in alloc; "{inst}")?;
         push(&mut text, &place)?;
     }
@@ -116,28 +116,34 @@ fn fault_text(alloc: Global, fault: &SetupFault) -> Result<String, Fail> {
     }
 }
 
-/// Loads the session in the file `s`, where these calls fail.
-fn load_stored(
-    alloc: Global,
-    files: &str,
-    fails: &[u64],
-) -> Result<Result<Loaded, SetupFault>, Fail> {
-    let path = Text::from_str(alloc, "s")?;
+/// A vault with these files, of which these calls fail.
+fn vault_of(alloc: Global, files: &str, fails: &[u64]) -> Result<MemVault, Fail> {
     let fails = fails.to_vec(alloc)?;
-    let mut vault = MemVault::new(alloc, stored(alloc, files)?, fails);
-    Ok(load(alloc, &path, &mut vault, &Stock))
+    Ok(MemVault::new(alloc, stored(alloc, files)?, fails))
 }
 
-fn answer_text(alloc: Global, answer: &Result<Loaded, SetupFault>) -> Result<String, Fail> {
-    match answer {
-        Ok(loaded) => loaded_text(alloc, loaded),
-        Err(fault) => fault_text(alloc, fault),
+/// The setup of a session that restores nothing.
+fn told(alloc: Global, loaded: Loaded) -> Result<String, Fail> {
+    let setup = loaded.with_states(Items::new(alloc));
+    setup_text(alloc, &setup)
+}
+
+fn blamed(alloc: Global, fault: SetupFault) -> Result<String, Fail> {
+    fault_text(alloc, &fault)
+}
+
+fn answer_over(alloc: Global, path: &Text, vault: &mut MemVault) -> Result<String, Fail> {
+    match load(alloc, path, vault, &Stock) {
+        Ok(loaded) => told(alloc, loaded),
+        Err(fault) => blamed(alloc, fault),
     }
 }
 
+/// What the session in the file `s` answers, where these calls fail.
 fn answer(alloc: Global, files: &str, fails: &[u64]) -> Result<String, Fail> {
-    let answer = load_stored(alloc, files, fails)?;
-    answer_text(alloc, &answer)
+    let path = Text::from_str(alloc, "s")?;
+    let mut vault = vault_of(alloc, files, fails)?;
+    answer_over(alloc, &path, &mut vault)
 }
 
 fn answers_where(
@@ -249,20 +255,4 @@ fn every_stock_code_is_declared(rt: HostRuntime) -> Result<(), Fail> {
         STOCK,
         "ok Constant Amplifier Mixer Echo Fetch Burst Keep 0 1 2 3 4 5 6",
     )
-}
-
-/// How many declarations a setup without restores has.
-fn declarations_in(alloc: Global, loaded: Loaded) -> usize {
-    let setup = loaded.with_states(Items::new(alloc));
-    setup.decls.len()
-}
-
-#[test]
-fn a_setup_without_restores(rt: HostRuntime) -> Result<(), Fail> {
-    let declared = match load_stored(rt.alloc(), "s lv2fx 1 / inst c urn:lv2fx:const", &[])? {
-        Ok(loaded) => declarations_in(rt.alloc(), loaded),
-        Err(_) => 0,
-    };
-    assert_eq!(rt; declared, 1);
-    Ok(())
 }
