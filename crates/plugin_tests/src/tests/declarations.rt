@@ -3,6 +3,7 @@ use super::amplifier::{amplifier, cut, declared};
 use lv_base::{Fixed, Items, Text};
 use plugin_decl::{
     Decl, DeclFault, Port, PortKind, one_answer, options_of, patch_port, reply_port, some_answer,
+    version_of,
 };
 use std::alloc::Global;
 use std::process::Abort;
@@ -174,6 +175,24 @@ fn no_message_port(rt: HostRuntime) -> Result<(), Fail> {
     let (patch, reply) = message_ports_of(rt.alloc(), "", "")?;
     assert_eq!(rt; patch, None);
     assert_eq!(rt; reply, None);
+    Ok(())
+}
+
+/// The version of the plug-in with this URI, by the amplifier's lines and these.
+fn version_with(alloc: Global, with: &str, uri: &str) -> Result<Option<(u32, u32)>, Fail> {
+    let uri = Text::from_str(alloc, uri)?;
+    let store = amplifier(alloc, "", with)?;
+    let version = version_of(&store, &uri)?;
+    Ok(version.map(|version| (version.minor, version.micro)))
+}
+
+#[test]
+fn versions(rt: HostRuntime) -> Result<(), Fail> {
+    let with = "urn:amp lv2:minorVersion '3;urn:amp lv2:microVersion '7";
+    let amplifier = version_with(rt.alloc(), with, "urn:amp")?;
+    let port = version_with(rt.alloc(), with, "urn:0")?;
+    assert_eq!(rt; amplifier, Some((3, 7)));
+    assert_eq!(rt; port, None);
     Ok(())
 }
 

@@ -1,0 +1,9 @@
+pub mod Steps
+pub mod Causes
+pub mod Versions
+pub mod Earlier
+pub mod Judged
+pub mod Planned
+pub mod Whole
+pub mod OneAnswer
+pub mod SomeAnswer
