@@ -1,0 +1,6 @@
+pub mod Tables
+pub mod Forms
+pub mod SessionLaws
+pub mod KeptLaws
+pub mod RingLaws
+pub mod LookLaws

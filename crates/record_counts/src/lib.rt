@@ -1,0 +1,14 @@
+//! What a judge of records counts as it goes on from entry to entry: of each ring, each actor and each instance what the rules ask, so
+//! that no rule searches what stands before.
+#![tactic(auto)]
+
+mod form;
+mod looks;
+mod message;
+mod rings;
+mod session;
+
+pub use form::has_form;
+pub use looks::Looks;
+pub use message::Message;
+pub use rings::{RingCount, RingCounts};

@@ -1,0 +1,66 @@
+ghost use Rattle.std.specs.Prelude.{◌≡◌};
+ghost use Rattle.record_law.specs.Shape as spec;
+ghost use Rattle.record_law.specs.Entries as entries;
+
+use record_law::Shape;
+use step_law::{Actor, Entry, Kind, Ring};
+
+/// The worker that an instance belongs to.
+pub(crate) fn worker_of(shape: &Shape, inst: u32) -> u32
+    ensures { result ≡ spec.worker_of shape.now inst }
+{
+    match shape.insts.get(inst as usize) {
+        Some(it) => it.worker,
+        None => 0,
+    }
+}
+
+/// Whether an instance schedules work.
+pub(crate) fn works(shape: &Shape, inst: u32) -> bool
+    ensures { result ≡ spec.works shape.now inst }
+{
+    match shape.insts.get(inst as usize) {
+        Some(it) => it.works,
+        None => false,
+    }
+}
+
+/// Who sends on a ring.
+pub(crate) fn sender(shape: &Shape, ring: Ring) -> Actor
+    ensures { result ≡ spec.sender shape.now ring }
+{
+    match ring {
+        Ring::ControlToAudio | Ring::ControlToWorker(_) => Actor::Control,
+        Ring::AudioToControl | Ring::Jobs(_) => Actor::Audio,
+        Ring::WorkerToControl(worker) => Actor::Worker(worker),
+        Ring::Responses(inst) | Ring::LocalJobs(inst) => Actor::Worker(worker_of(shape, inst)),
+    }
+}
+
+/// Whether an entry is an actor's.
+pub(crate) fn is_by(actor: Actor, entry: Entry) -> bool
+    ensures { result ≡ entries.is_by actor entry }
+{
+    match actor {
+        Actor::Audio => entry.actor == 0,
+        Actor::Control => entry.actor == 1,
+        Actor::Worker(worker) => u64::from(entry.actor) == 1 + u64::from(worker),
+    }
+}
+
+/// Whether an entry is of this kind.
+pub(crate) fn is_kind(kind: Kind, entry: Entry) -> bool
+    ensures { result ≡ entries.is_kind kind entry }
+{
+    entry.kind as u32 == kind as u32
+}
+
+/// Whether an entry is the one that is wanted.
+pub(crate) fn is_same(wanted: Entry, entry: Entry) -> bool
+    ensures { result ≡ entries.same_entry wanted entry }
+{
+    entry.actor == wanted.actor
+        && is_kind(wanted.kind, entry)
+        && entry.a == wanted.a
+        && entry.b == wanted.b
+}
