@@ -4,3 +4,4 @@ pub mod SessionLaws
 pub mod KeptLaws
 pub mod RingLaws
 pub mod LookLaws
+pub mod OwnerLaws

@@ -6,3 +6,4 @@ pub mod Kept
 pub mod Rings
 pub mod Progress
 pub mod Looks
+pub mod Owners

@@ -5,10 +5,12 @@
 mod form;
 mod looks;
 mod message;
+mod owners;
 mod rings;
 mod session;
 
 pub use form::has_form;
 pub use looks::Looks;
 pub use message::Message;
+pub use owners::{Owner, Owners, Part, PartOwners};
 pub use rings::{RingCount, RingCounts};

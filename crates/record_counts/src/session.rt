@@ -1,4 +1,5 @@
-ghost use Rattle.std.specs.Prelude.{◌≡◌};
+ghost use Rattle.std.specs.Prelude.{◌≡◌, ◌<◌, ◌^◌};
+ghost use Rattle.step_law.specs.Ring.{ring_number};
 ghost use Rattle.record_law.specs.Shape as spec;
 ghost use Rattle.record_law.specs.Entries as entries;
 
@@ -53,6 +54,14 @@ pub(crate) fn is_kind(kind: Kind, entry: Entry) -> bool
     ensures { result ≡ entries.is_kind kind entry }
 {
     entry.kind as u32 == kind as u32
+}
+
+/// Whether an entry of this kind is on a ring.
+pub(crate) fn is_on(kind: Kind, ring: Ring, entry: Entry) -> bool
+    requires { ring_number ring < 2 ^ 32 }
+    ensures { result ≡ entries.is_on kind ring entry }
+{
+    is_kind(kind, entry) && entry.a == ring.number()
 }
 
 /// Whether an entry is the one that is wanted.
