@@ -5,3 +5,6 @@ pub mod KeptLaws
 pub mod RingLaws
 pub mod LookLaws
 pub mod OwnerLaws
+pub mod Ranges
+pub mod WaitLaws
+pub mod CallLaws

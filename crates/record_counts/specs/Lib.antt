@@ -7,3 +7,5 @@ pub mod Rings
 pub mod Progress
 pub mod Looks
 pub mod Owners
+pub mod Calls
+pub mod Waits
