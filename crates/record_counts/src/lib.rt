@@ -17,4 +17,5 @@ pub use looks::Looks;
 pub use message::Message;
 pub use owners::{Owner, Owners, Part, PartOwners};
 pub use rings::{RingCount, RingCounts};
+pub use session::is_session;
 pub use waits::{Activity, Waits};

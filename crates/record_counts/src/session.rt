@@ -1,10 +1,36 @@
-ghost use Rattle.std.specs.Prelude.{◌≡◌, ◌<◌, ◌^◌};
+ghost use Rattle.std.specs.Prelude.{◌≡◌, ◌<◌, ◌≤◌, ◌^◌, ◌↔◌, IsTrue, All};
+ghost use Rattle.record_law.specs.declared.shape.ShapeAction.{ShapeAction};
+ghost use Rattle.record_law.specs.declared.shape.ShapeInst.{ShapeInst};
+ghost use Rattle.record_counts.specs.Session.{IsSession};
 ghost use Rattle.step_law.specs.Ring.{ring_number};
 ghost use Rattle.record_law.specs.Shape as spec;
 ghost use Rattle.record_law.specs.Entries as entries;
 
-use record_law::Shape;
+use record_law::{Shape, ShapeAction, ShapeInst};
 use step_law::{Actor, Entry, Kind, Ring};
+
+/// Whether records of a session can be judged: it has at most 32 instances and 8 workers, and those that instances and actions name are
+/// there.
+pub fn is_session(shape: &Shape) -> bool
+    ensures { IsTrue result ↔ IsSession shape.now }
+{
+    shape.insts.len() <= 32
+        && shape.workers <= 8
+        && are_owned(shape.insts.as_slice(), shape.workers)
+        && are_on_insts(shape.actions.as_slice(), shape.insts.len())
+}
+
+fn are_owned(insts: &[ShapeInst], workers: u32) -> bool
+    ensures { IsTrue result ↔ All (λ (it : ShapeInst). (0 < it.worker) × (it.worker ≤ workers)) insts.now }
+{
+    insts.iter().all(|it| 0 < it.worker && it.worker <= workers)
+}
+
+fn are_on_insts(actions: &[ShapeAction], count: usize) -> bool
+    ensures { IsTrue result ↔ All (λ (it : ShapeAction). it.inst < count) actions.now }
+{
+    actions.iter().all(|it| (it.inst as usize) < count)
+}
 
 /// The worker that an instance belongs to.
 pub(crate) fn worker_of(shape: &Shape, inst: u32) -> u32
