@@ -10,7 +10,7 @@ use Rattle.record_law.specs.declared.shape.Shape.{Shape}
 use Rattle.record_law.specs.declared.shape.ShapeInst.{ShapeInst}
 use Rattle.record_law.specs.Shape.{worker_of, sender}
 use Rattle.record_law.specs.There.{is_ring_there}
-use Rattle.record_counts.specs.Session.{IsSession}
+use Rattle.record_terms.specs.Session.{IsSession}
 
 worker_in : (workers : ℕ) (xs : List ShapeInst) (i : ℕ) → All (λ (it : ShapeInst). (0 < it.worker) × (it.worker ≤ workers)) xs
     → (option_map_or (λ (it : ShapeInst). it.worker) (slice_get xs i) 0 ≤ workers)

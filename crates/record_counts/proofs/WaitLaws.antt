@@ -1,8 +1,8 @@
 -- What actors wait for, as a history goes on.
-use Rattle.std.proofs.Common.{◌≡◌, ℕ, zero, suc, ◌+◌, ◌<◌, ◌≤◌, ◌==◌, nat_lt, Bool, true, false, ◌&&◌, ◌||◌, ◌∷◌, length, set, map, refl, sym, ap, ap₂, subst, ◌∙◌, ⊎_elim, arith, ne_eqb}
+use Rattle.std.proofs.Common.{◌≡◌, List, [], ℕ, zero, suc, ◌+◌, ◌<◌, ◌≤◌, ◌==◌, nat_lt, nat_eq, Bool, true, false, ◌&&◌, ◌||◌, ◌∷◌, length, set, map, replicate, refl, sym, ap, ap₂, subst, ◌∙◌, ⊎_elim, arith, ne_eqb}
 use Rattle.std.specs.List.{list_all, range_with_len}
 use Rattle.std.proofs.lemmas.Bool.{and_left, and_right, cond-true, cond-false, cases_eq}
-use Rattle.std.proofs.lemmas.List.{length-set}
+use Rattle.std.proofs.lemmas.List.{length-set, length-replicate}
 use Rattle.step_law.specs.declared.actor.Actor.TheVariants.{Control, Worker}
 use Rattle.step_law.specs.declared.call.Call.TheVariants.{Activate, Deactivate}
 use Rattle.step_law.specs.declared.entry.Entry.{Entry}
@@ -22,7 +22,7 @@ use Rattle.record_counts.specs.declared.waits.Activity.{Activity}
 use Rattle.record_counts.specs.declared.waits.Waits.{Waits}
 use Rattle.record_counts.specs.Table.{IsTable}
 use Rattle.record_counts.specs.Waits.{activity_at, stopped_at, next_activity, is_of_call, TellsWaits}
-use Rattle.record_counts.proofs.Tables.{table_set, table_same}
+use Rattle.record_counts.proofs.Tables.{table_set, table_same, table_replicate}
 use Rattle.record_counts.proofs.Ranges.{all_of_table}
 use Rattle.record_counts.proofs.OwnerLaws.{other_kind}
 
@@ -131,3 +131,22 @@ worker_at (suc n) some = let same : 1 + suc n ≡ suc (suc n) = omega arith in a
 pub and_true : (a b : Bool) → b ≡ true → (a && b) ≡ a
 and_true true b is = is
 and_true false b is = refl
+
+-- before anything is done, all is open only where there is nothing
+open_none : (s : Shape) → nat_eq (length s.insts) 0 ≡ is_open s []
+open_none s = by (length s.insts)
+  where
+    by : (n : ℕ) → nat_eq n 0 ≡ list_all (λ inst. has (end_of Control Activate inst) []) (range_with_len 0 n)
+    by zero = refl
+    by (suc n) = ne_eqb (suc n) 0 (λ none. omega (arith, none))
+
+pub none_yet : (s : Shape) (insts : List Activity) (stopped : List Bool) (n : ℕ) → n ≡ length s.insts → insts ≡ replicate n (activity false false) → stopped ≡ replicate (2 + s.workers) false
+    → (opened : Bool) → opened ≡ nat_eq n 0 → TellsWaits s [] (record { insts = insts; stopped = stopped; is_open = opened; is_joined = false })
+none_yet s insts stopped n count quiet none opened is = record {
+  insts = subst (IsTable (activity_at [])) (sym quiet) (table_replicate (activity_at []) n (activity false false) (λ i. refl));
+  all_insts = ap length quiet ∙ length-replicate n (activity false false) ∙ count;
+  stopped = subst (IsTable (stopped_at [])) (sym none) (table_replicate (stopped_at []) (2 + s.workers) false (λ i. refl));
+  all_actors = ap length none ∙ length-replicate (2 + s.workers) false;
+  opened = is ∙ ap (λ (k : ℕ). nat_eq k 0) count ∙ open_none s;
+  joined = refl;
+}

@@ -1,6 +1,4 @@
-pub mod Message
 pub mod Step
-pub mod Session
 pub mod Table
 pub mod Kept
 pub mod Rings

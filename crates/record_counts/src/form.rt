@@ -3,8 +3,8 @@ ghost use Rattle.std.specs.Option.{option_map_or};
 ghost use Rattle.step_law.specs.Told.{event_of};
 ghost use Rattle.record_law.specs.There as there;
 
-use crate::session::works;
 use record_law::Shape;
+use record_terms::works;
 use step_law::{Actor, Entry, Event, Ring};
 
 /// Whether an entry has a form in a session: the actors, rings and instances that it names are there.

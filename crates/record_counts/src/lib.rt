@@ -5,17 +5,13 @@
 mod calls;
 mod form;
 mod looks;
-mod message;
 mod owners;
 mod rings;
-mod session;
 mod waits;
 
 pub use calls::{InstCalls, OpenCall, OpenCalls};
 pub use form::has_form;
 pub use looks::Looks;
-pub use message::Message;
 pub use owners::{Owner, Owners, Part, PartOwners};
 pub use rings::{RingCount, RingCounts};
-pub use session::is_session;
 pub use waits::{Activity, Waits};

@@ -9,15 +9,15 @@ ghost use Rattle.record_law.specs.Looks as spec;
 ghost use Rattle.record_law.specs.Shape as shapes;
 ghost use Rattle.record_law.specs.There.{is_ring_there, has_form};
 ghost use Rattle.record_counts.specs.Step.{step_of};
-ghost use Rattle.record_counts.specs.Session.{IsSession};
+ghost use Rattle.record_terms.specs.Session.{IsSession};
 ghost use Rattle.record_counts.specs.Kept.{IsKept};
 ghost use Rattle.record_counts.specs.Progress.{worth_of};
 ghost use Rattle.record_counts.specs.Rings.{CountsRings};
 
 use crate::rings::RingCounts;
-use crate::session::{is_by, is_kind, sender};
 use lv_base::{Items, NoMemory};
 use record_law::Shape;
+use record_terms::{is_by, is_kind, sender};
 use std::alloc::Global;
 use step_law::{Actor, Entry, Kind, Ring};
 

@@ -11,16 +11,15 @@ ghost use Rattle.record_law.specs.Entries.{same_entry};
 ghost use Rattle.record_law.specs.Message.{History};
 ghost use Rattle.record_law.specs.Owners as spec;
 ghost use Rattle.record_law.specs.There.{has_form};
-ghost use Rattle.record_counts.specs.Message.{meaning_of};
-ghost use Rattle.record_counts.specs.Session.{IsSession};
+ghost use Rattle.record_terms.specs.Message.{meaning_of};
+ghost use Rattle.record_terms.specs.Session.{IsSession};
 ghost use Rattle.record_counts.specs.Step.{step_of};
 ghost use Rattle.record_counts.specs.Table.{IsTable};
 ghost use Rattle.record_counts.specs.Owners as counted;
 
-use crate::message::Message;
-use crate::session::{is_by, is_on, is_same, worker_of};
 use lv_base::{Items, NoMemory};
 use record_law::Shape;
+use record_terms::{Message, is_by, is_on, is_same, worker_of};
 use std::alloc::Global;
 use std::marker::Model;
 use step_law::{Actor, Call, Entry, Kind, Ring};
@@ -46,7 +45,7 @@ impl Part {
     ghost use Rattle.std.specs.Prelude.{◌≡◌, ◌<◌, ◌^◌};
     ghost use Rattle.step_law.specs.Ring.{ring_number};
     ghost use Rattle.record_law.specs.Owners as spec;
-    ghost use Rattle.record_counts.specs.Session.{IsSession};
+    ghost use Rattle.record_terms.specs.Session.{IsSession};
     ghost use Rattle.record_counts.specs.Owners.{part_of};
 
     fn inst(self) -> u32

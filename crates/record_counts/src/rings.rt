@@ -5,9 +5,9 @@ ghost use Rattle.record_law.specs.Room as room;
 ghost use Rattle.record_law.specs.There.{has_form};
 ghost use Rattle.record_counts.specs.Step.{step_of};
 
-use crate::session::{is_by, sender};
 use lv_base::{Items, NoMemory};
 use record_law::Shape;
+use record_terms::{is_by, sender};
 use std::alloc::Global;
 use std::marker::Model;
 use step_law::{Entry, Kind, Ring};
@@ -84,7 +84,7 @@ impl Model for RingCounts {
 }
 
 impl RingCounts {
-    ghost use Rattle.record_counts.specs.Session.{IsSession};
+    ghost use Rattle.record_terms.specs.Session.{IsSession};
     ghost use Rattle.record_counts.specs.Rings.{count_at, CountsRings};
 
     /// Nothing was sent on any ring of a session.

@@ -1,4 +1,4 @@
-ghost use Rattle.std.specs.Prelude.{◌≡◌, ◌<◌, ◌≤◌, ◌+◌, ◌∷◌, ◌||◌, ◌&&◌, not, [], ℕ, nat_lt, nat_eq, length, slice_set, IfOk, true};
+ghost use Rattle.std.specs.Prelude.{◌≡◌, ◌<◌, ◌≤◌, ◌+◌, ◌∷◌, ◌||◌, ◌&&◌, not, [], ℕ, nat_lt, nat_eq, length, replicate, slice_set, IfOk, true, false};
 ghost use Rattle.std.specs.List.{list_all};
 ghost use Rattle.step_law.specs.declared.actor.Actor.TheVariants.{Control, Worker};
 ghost use Rattle.step_law.specs.declared.entry.Kind.TheVariants.{Stop, Join};
@@ -15,14 +15,14 @@ ghost use Rattle.record_law.specs.Shape as shapes;
 ghost use Rattle.record_law.specs.Waits as spec;
 ghost use Rattle.record_law.specs.Lasting as lasting;
 ghost use Rattle.record_counts.specs.Rings.{CountsRings};
-ghost use Rattle.record_counts.specs.Session.{IsSession};
+ghost use Rattle.record_terms.specs.Session.{IsSession};
 ghost use Rattle.record_counts.specs.Step.{step_of};
 ghost use Rattle.record_counts.specs.Waits as waited;
 
 use crate::rings::RingCounts;
-use crate::session::{is_by, is_kind, is_same, worker_of, works};
 use lv_base::{Items, NoMemory};
 use record_law::Shape;
+use record_terms::{is_by, is_kind, is_same, worker_of, works};
 use std::alloc::Global;
 use step_law::{Actor, Call, Entry, Kind, Ring};
 
@@ -85,11 +85,11 @@ impl Waits {
         ensures { IfOk result (TellsWaits shape.now []) }
     {
         let count = shape.insts.len();
-        let insts = vec![in alloc; Activity::none(); count]?;
-        let stopped = vec![in alloc; false; 2 + shape.workers as usize]?;
+        let insts = none_active(alloc, count)?;
+        let stopped = none_stopped(alloc, 2 + shape.workers as usize)?;
         Ok(Waits {
-            insts: Items::from_vec(insts),
-            stopped: Items::from_vec(stopped),
+            insts,
+            stopped,
             is_open: count == 0,
             is_joined: false,
         })
@@ -290,4 +290,18 @@ fn is_take(ring: Ring, entry: Entry) -> bool
     ensures { result ≡ same_entry (take_of Control ring) entry }
 {
     is_same(Entry::take(Actor::Control, ring), entry)
+}
+
+fn none_active(alloc: Global, count: usize) -> Result<Items<Activity>, NoMemory>
+    ensures { IfOk result (λ it. it ≡ replicate count (record { activated = false; deactivated = false })) }
+{
+    let insts = vec![in alloc; Activity::none(); count]?;
+    Ok(Items::from_vec(insts))
+}
+
+fn none_stopped(alloc: Global, count: usize) -> Result<Items<bool>, NoMemory>
+    ensures { IfOk result (λ it. it ≡ replicate count false) }
+{
+    let stopped = vec![in alloc; false; count]?;
+    Ok(Items::from_vec(stopped))
 }

@@ -33,7 +33,7 @@ use Rattle.record_law.specs.Control.{opening, stages_from, finish_from, rings_le
 use Rattle.record_law.specs.Protocol.{Follows, tasks_of, move, then_left, follow, left_in, about_in, left_after, brought, follow_in}
 use Rattle.record_counts.specs.Kept.{IsKept}
 use Rattle.record_counts.specs.Owners.{IsAboutThere}
-use Rattle.record_counts.specs.Session.{IsSession}
+use Rattle.record_terms.specs.Session.{IsSession}
 
 -- an instance is there
 abbrev inst_there : Shape → ℕ → Bool

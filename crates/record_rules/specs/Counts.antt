@@ -7,11 +7,11 @@ use Rattle.record_law.specs.Message.{History}
 use Rattle.record_law.specs.Protocol.{Follows, follow_in, about_in}
 use Rattle.record_law.specs.Rules as rules
 use Rattle.record_law.specs.There.{has_form}
-use Rattle.record_counts.specs.declared.message.Message.{Message}
+use Rattle.record_terms.specs.declared.message.Message.{Message}
 use Rattle.record_counts.specs.Calls.{TellsCalls}
 use Rattle.record_counts.specs.Kept.{IsKept}
 use Rattle.record_counts.specs.Looks.{TellsLooks}
-use Rattle.record_counts.specs.Message.{meaning_of}
+use Rattle.record_terms.specs.Message.{meaning_of}
 use Rattle.record_counts.specs.Owners.{TellsOwners}
 use Rattle.record_counts.specs.Rings.{CountsRings}
 use Rattle.record_counts.specs.Waits.{TellsWaits}

@@ -6,7 +6,7 @@ use Rattle.record_law.specs.Protocol.{follow_in, about_in}
 use Rattle.record_counts.specs.Kept.{IsKept}
 use Rattle.record_counts.specs.Looks.{EndsInTurn}
 use Rattle.record_counts.specs.Owners.{IsAboutThere}
-use Rattle.record_counts.specs.Session.{IsSession}
+use Rattle.record_terms.specs.Session.{IsSession}
 
 -- audio ends its blocks in turn, and stops after the last
 abbrev pub BlocksEndInTurn : Type 0

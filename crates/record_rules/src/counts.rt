@@ -9,12 +9,13 @@ ghost use Rattle.record_law.specs.Message.Message.{nothing};
 ghost use Rattle.record_law.specs.Protocol.{about_in, follow_in, done_in};
 ghost use Rattle.record_law.specs.Rules as rules;
 ghost use Rattle.record_law.specs.There.{has_form};
-ghost use Rattle.record_counts.specs.Message.{meaning_of};
-ghost use Rattle.record_counts.specs.Session.{IsSession};
+ghost use Rattle.record_terms.specs.Message.{meaning_of};
+ghost use Rattle.record_terms.specs.Session.{IsSession};
 
 use lv_base::NoMemory;
-use record_counts::{Looks, Message, OpenCalls, Owners, RingCounts, Waits, has_form};
+use record_counts::{Looks, OpenCalls, Owners, RingCounts, Waits, has_form};
 use record_law::{Broken, Shape};
+use record_terms::Message;
 use std::alloc::Global;
 use step_law::{Actor, Entry, Kind};
 

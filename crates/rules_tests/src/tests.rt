@@ -1,7 +1,12 @@
+ghost use Rattle.std.specs.Prelude.{◌≡◌, ◌<◌, ◌≤◌, ◌↔◌, ◌∷◌, [], length, IsTrue, All};
+ghost use Rattle.record_law.specs.declared.shape.ShapeAction.{ShapeAction};
+ghost use Rattle.record_law.specs.declared.shape.ShapeInst.{ShapeInst};
+ghost use Rattle.record_terms.specs.Session.{IsSession};
+
 use lv_base::{Items, NoMemory};
-use record_counts::{Message, is_session};
 use record_law::{ActionKind, Broken, Shape, ShapeAction, ShapeInst};
 use record_rules::Counts;
+use record_terms::Message;
 use std::alloc::Global;
 use std::test::Fail;
 use step_record::{Actor, Call, Entry, Ring, read};
@@ -86,6 +91,44 @@ fn session(alloc: Global) -> Result<Shape, NoMemory> {
     })
 }
 
+// Whether a session is one, of an instance that is in the plan, whose records can be judged.
+fn is_session(shape: &Shape) -> bool
+    ensures { IsTrue result → IsSession shape.now }
+{
+    keeps_limits(shape)
+        && are_owned(shape.insts.as_slice(), shape.workers)
+        && are_on_insts(shape.actions.as_slice(), 1)
+        && is_first(shape.plan.as_slice())
+}
+
+fn keeps_limits(shape: &Shape) -> bool
+    ensures { IsTrue result → (length shape.now.insts ≡ 1) × (shape.now.workers ≡ 1) × (shape.now.cells ≡ 2) × (shape.now.blocks ≡ 2) × (length shape.now.actions ≡ 1) }
+{
+    shape.insts.len() == 1
+        && shape.workers == 1
+        && shape.cells == 2
+        && shape.blocks == 2
+        && shape.actions.len() == 1
+}
+
+fn are_owned(insts: &[ShapeInst], workers: u32) -> bool
+    ensures { IsTrue result ↔ All (λ (it : ShapeInst). (0 < it.worker) × (it.worker ≤ workers)) insts.now }
+{
+    insts.iter().all(|it| 0 < it.worker && it.worker <= workers)
+}
+
+fn are_on_insts(actions: &[ShapeAction], count: usize) -> bool
+    ensures { IsTrue result ↔ All (λ (it : ShapeAction). it.inst < count) actions.now }
+{
+    actions.iter().all(|it| (it.inst as usize) < count)
+}
+
+fn is_first(plan: &[u32]) -> bool
+    ensures { IsTrue result → plan.now ≡ 0 ∷ [] }
+{
+    plan.len() == 1 && plan[0] == 0
+}
+
 fn message(letter: u8) -> Option<Message> {
     match letter {
         b'.' => Some(Message::Nothing),
@@ -140,7 +183,7 @@ struct Judge {
 }
 
 impl Judge {
-    ghost use Rattle.record_counts.specs.Session.{IsSession};
+    ghost use Rattle.record_terms.specs.Session.{IsSession};
 
     fn next(&mut self, shape: &Shape, entry: Entry, about: u8) -> Option<Broken>
         requires { IsSession shape.now }

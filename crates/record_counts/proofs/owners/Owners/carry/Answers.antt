@@ -1,5 +1,5 @@
 use Rattle.std.proofs.Common.{sym}
-use Rattle.record_counts.specs.Message.{meaning_of}
+use Rattle.record_terms.specs.Message.{meaning_of}
 use Rattle.record_counts.specs.Owners.{owners_at}
 use Rattle.record_counts.specs.Step.{step_of}
 use Rattle.record_counts.proofs.OwnerLaws.{carried, not_carried}

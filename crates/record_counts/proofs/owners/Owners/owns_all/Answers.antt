@@ -2,7 +2,7 @@ use Rattle.std.proofs.Common.{ap, sym, ◌∙◌, ⊎_elim, length, ltb-true}
 use Rattle.std.specs.List.{list_all}
 use Rattle.step_law.specs.declared.entry.Kind.{Kind}
 use Rattle.record_law.specs.Owners.{owns, parts_needed}
-use Rattle.record_counts.specs.Message.{meaning_of}
+use Rattle.record_terms.specs.Message.{meaning_of}
 use Rattle.record_counts.proofs.Forms.{form_begin, form_end}
 use Rattle.record_counts.proofs.owners.Owners.owns_all.Goals as goal
 

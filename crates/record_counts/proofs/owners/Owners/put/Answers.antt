@@ -1,7 +1,7 @@
 use Rattle.std.proofs.Common.{◌≡◌, ◌<◌, length, Some, ap, ap₂, ◌∙◌}
 use Rattle.record_counts.specs.declared.owners.Owner.{Owner}
 use Rattle.record_counts.specs.declared.owners.PartOwners.{PartOwners}
-use Rattle.record_counts.specs.Message.{meaning_of}
+use Rattle.record_terms.specs.Message.{meaning_of}
 use Rattle.record_counts.specs.Owners.{next_owners}
 use Rattle.record_counts.specs.Step.{step_of}
 use Rattle.record_counts.proofs.OwnerLaws.{put_one}

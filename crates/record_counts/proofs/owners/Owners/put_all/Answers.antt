@@ -1,5 +1,5 @@
 use Rattle.std.proofs.Common.{◌∙◌}
-use Rattle.record_counts.specs.Message.{meaning_of}
+use Rattle.record_terms.specs.Message.{meaning_of}
 use Rattle.record_counts.specs.Step.{step_of}
 use Rattle.record_counts.proofs.OwnerLaws.{one_more, below}
 use Rattle.record_counts.proofs.owners.Owners.put_all.Goals as goal

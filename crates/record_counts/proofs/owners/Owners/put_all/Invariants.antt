@@ -1,6 +1,6 @@
 use Rattle.std.proofs.Common.{◌≡◌, ℕ, nat_lt, if◌then◌else◌, length}
 use Rattle.record_counts.specs.declared.owners.PartOwners.{PartOwners}
-use Rattle.record_counts.specs.Message.{meaning_of}
+use Rattle.record_terms.specs.Message.{meaning_of}
 use Rattle.record_counts.specs.Owners.{next_owners}
 use Rattle.record_counts.specs.Step.{step_of}
 use Rattle.record_counts.specs.Table.{IsTable}

@@ -1,6 +1,6 @@
 use Rattle.std.proofs.Common.{◌∷◌, subst}
 use Rattle.record_law.specs.Message.{Message}
-use Rattle.record_counts.specs.Message.{meaning_of}
+use Rattle.record_terms.specs.Message.{meaning_of}
 use Rattle.record_counts.specs.Step.{step_of}
 use Rattle.record_counts.proofs.KeptLaws.{form_kept, class_kept}
 use Rattle.record_rules.specs.declared.counts.Counts.{Counts}

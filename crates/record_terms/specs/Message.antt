@@ -1,8 +1,8 @@
 -- What a message of the program means.
 use Rattle.record_law.specs.Message.{Message as Meant}
 use Rattle.record_law.specs.Message.Message.{nothing, body, notice, input, lend, part, give, save, restore, answer, close}
-use Rattle.record_counts.specs.declared.message.Message.{Message}
-use Rattle.record_counts.specs.declared.message.Message.TheVariants.{Nothing, Body, Notice, Input, Lend, Part, Give, Save, Restore, Answer, Close}
+use Rattle.record_terms.specs.declared.message.Message.{Message}
+use Rattle.record_terms.specs.declared.message.Message.TheVariants.{Nothing, Body, Notice, Input, Lend, Part, Give, Save, Restore, Answer, Close}
 
 abbrev pub meaning_of : Message → Meant
 meaning_of Nothing = nothing
