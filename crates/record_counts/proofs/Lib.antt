@@ -1,0 +1,10 @@
+pub mod Tables
+pub mod Forms
+pub mod SessionLaws
+pub mod KeptLaws
+pub mod RingLaws
+pub mod LookLaws
+pub mod OwnerLaws
+pub mod Ranges
+pub mod WaitLaws
+pub mod CallLaws

@@ -1,0 +1,9 @@
+pub mod Step
+pub mod Table
+pub mod Kept
+pub mod Rings
+pub mod Progress
+pub mod Looks
+pub mod Owners
+pub mod Calls
+pub mod Waits

@@ -1,0 +1,3 @@
+pub mod Naming
+pub mod Ending
+pub mod Finding
