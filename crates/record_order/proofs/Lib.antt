@@ -1,0 +1,3 @@
+pub mod Follow
+pub mod FrontTables
+pub mod AudioTasks
