@@ -24,6 +24,7 @@ use Rattle.record_order.specs.declared.fronts.Place.{Place}
 use Rattle.record_order.specs.declared.message.Message.{Message}
 use Rattle.record_order.specs.Fronts.{AreFronts}
 use Rattle.record_order.specs.Message.{meaning_of}
+use Rattle.record_order.specs.There.{IsThere}
 
 -- the blocks from one on, and the stop
 abbrev pub blocks_left : Shape → ℕ → List Task
@@ -64,10 +65,6 @@ audio_left s Stopped = []
 abbrev pub audio_follows : Shape → Option AudioStep → Option Follows
 audio_follows s None = None
 audio_follows s (Some step) = Some (record { about = meaning_of step.about; left = audio_left s step.stage })
-
--- an answer is what an entry makes of tasks after each history of audio's that leaves the fronts so, where a take brings a message
-abbrev pub Judges : Shape → List Place → Message → List Task → Entry → Option AudioStep → Type 0
-Judges s fronts brought tasks e answer = (h : History) → AreFronts fronts h → follow s h (meaning_of brought) tasks e ≡ audio_follows s answer
 
 -- ---- stages of a session
 

@@ -5,8 +5,9 @@ ghost use Rattle.record_law.specs.Audio.{at_most};
 ghost use Rattle.record_law.specs.Entries.{same_entry};
 ghost use Rattle.record_law.specs.Shape.{works};
 ghost use Rattle.record_law.specs.Task.Task.{one, look_messages};
-ghost use Rattle.record_order.specs.Limits.{KeepsLimits};
-ghost use Rattle.record_order.specs.Audio.{Judges, IsStage, IsTurn, audio_goes, blocks_left, fronts_left, runs_left, audio_left};
+ghost use Rattle.record_order.specs.There.{IsThere};
+ghost use Rattle.record_order.specs.Audio.{IsStage, IsTurn, audio_goes, blocks_left, fronts_left, runs_left, audio_left};
+ghost use Rattle.record_order.specs.AudioView.{Judges, AtStage, IsView, IsStep};
 
 use crate::Message;
 use crate::audio_stage::{AudioStage, AudioStep, RunStage, Turn};
@@ -28,11 +29,10 @@ pub(crate) struct AudioView<'a> {
 impl AudioView<'_> {
     /// What the entry makes of a stage, if audio may do it next.
     pub(crate) fn next(&self, stage: AudioStage) -> Option<AudioStep>
-        requires limits { KeepsLimits self.now.shape.now }
-        requires count { length self.now.fronts.now ≡ length self.now.shape.now.insts }
+        requires view { IsView self.now }
         requires stage { IsStage self.now.shape.now stage }
-        ensures judged { Judges self.now.shape.now self.now.fronts.now self.now.brought (audio_left self.now.shape.now stage) self.now.entry result }
-        ensures stage { IfSome result (λ step. IsStage self.now.shape.now step.stage) }
+        ensures judged { AtStage self.now stage result }
+        ensures step { IfSome result (IsStep self.now) }
     {
         match stage {
             AudioStage::Before { block } => self.before(block),
@@ -46,8 +46,8 @@ impl AudioView<'_> {
     }
 
     fn before(&self, block: u32) -> Option<AudioStep>
-        ensures judged { Judges self.now.shape.now self.now.fronts.now self.now.brought (blocks_left self.now.shape.now block) self.now.entry result }
-        ensures stage { IfSome result (λ step. IsStage self.now.shape.now step.stage) }
+        ensures judged { Judges self.now (blocks_left self.now.shape.now block) result }
+        ensures step { IfSome result (IsStep self.now) }
     {
         if block < self.shape.blocks {
             self.expect(Entry::block(block), Message::Nothing, AudioStage::Looking { block })
@@ -58,8 +58,8 @@ impl AudioView<'_> {
 
     fn looking(&self, block: u32) -> Option<AudioStep>
         requires { block < self.now.shape.now.blocks }
-        ensures judged { Judges self.now.shape.now self.now.fronts.now self.now.brought (look_messages ∷ fronts_left self.now.shape.now block 0) self.now.entry result }
-        ensures stage { IfSome result (λ step. IsStage self.now.shape.now step.stage) }
+        ensures judged { Judges self.now (look_messages ∷ fronts_left self.now.shape.now block 0) result }
+        ensures step { IfSome result (IsStep self.now) }
     {
         let more = self.entry.b;
         let look = Entry::look(Actor::Audio, Ring::ControlToAudio, more);
@@ -67,11 +67,10 @@ impl AudioView<'_> {
     }
 
     fn taking(&self, block: u32, more: u32) -> Option<AudioStep>
-        requires limits { KeepsLimits self.now.shape.now }
-        requires count { length self.now.fronts.now ≡ length self.now.shape.now.insts }
+        requires view { IsView self.now }
         requires block { block < self.now.shape.now.blocks }
-        ensures judged { Judges self.now.shape.now self.now.fronts.now self.now.brought (audio_left self.now.shape.now (AudioStage.Taking block more)) self.now.entry result }
-        ensures stage { IfSome result (λ step. IsStage self.now.shape.now step.stage) }
+        ensures judged { AtStage self.now (AudioStage.Taking block more) result }
+        ensures step { IfSome result (IsStep self.now) }
     {
         if more > 0 {
             let take = Entry::take(Actor::Audio, Ring::ControlToAudio);
@@ -86,12 +85,11 @@ impl AudioView<'_> {
     }
 
     fn returning(&self, block: u32, from: usize) -> Option<AudioStep>
-        requires limits { KeepsLimits self.now.shape.now }
-        requires count { length self.now.fronts.now ≡ length self.now.shape.now.insts }
+        requires view { IsView self.now }
         requires block { block < self.now.shape.now.blocks }
         requires from { from ≤ length self.now.shape.now.insts }
-        ensures judged { Judges self.now.shape.now self.now.fronts.now self.now.brought (fronts_left self.now.shape.now block from) self.now.entry result }
-        ensures stage { IfSome result (λ step. IsStage self.now.shape.now step.stage) }
+        ensures judged { Judges self.now (fronts_left self.now.shape.now block from) result }
+        ensures step { IfSome result (IsStep self.now) }
     {
         let inst = from + first_wanted(&self.fronts.as_slice()[from..]);
         if inst < self.fronts.len() {
@@ -103,12 +101,11 @@ impl AudioView<'_> {
     }
 
     fn running(&self, block: u32, from: usize) -> Option<AudioStep>
-        requires limits { KeepsLimits self.now.shape.now }
-        requires count { length self.now.fronts.now ≡ length self.now.shape.now.insts }
+        requires view { IsView self.now }
         requires block { block < self.now.shape.now.blocks }
         requires from { from ≤ length self.now.shape.now.plan }
-        ensures judged { Judges self.now.shape.now self.now.fronts.now self.now.brought (runs_left self.now.shape.now block from) self.now.entry result }
-        ensures stage { IfSome result (λ step. IsStage self.now.shape.now step.stage) }
+        ensures judged { Judges self.now (runs_left self.now.shape.now block from) result }
+        ensures step { IfSome result (IsStep self.now) }
     {
         let plan = self.shape.plan.as_slice();
         let place = from + first_present(self.fronts, &plan[from..]);
@@ -124,10 +121,8 @@ impl AudioView<'_> {
 
     fn begin(&self, turn: Turn) -> Option<AudioStep>
         requires { IsTurn self.now.shape.now turn }
-        ensures judged { Judges self.now.shape.now self.now.fronts.now self.now.brought
-            (one (begin_of Actor.Audio Call.Run turn.inst) nothing ∷ audio_left self.now.shape.now (AudioStage.Within turn (RunStage.Attempting (at_most (works self.now.shape.now turn.inst)))))
-            self.now.entry result }
-        ensures stage { IfSome result (λ step. IsStage self.now.shape.now step.stage) }
+        ensures judged { Judges self.now (one (begin_of Actor.Audio Call.Run turn.inst) nothing ∷ audio_left self.now.shape.now (AudioStage.Within turn (RunStage.Attempting (at_most (works self.now.shape.now turn.inst))))) result }
+        ensures step { IfSome result (IsStep self.now) }
     {
         let most = at_most(works(self.shape, turn.inst));
         let begin = Entry::begin(Actor::Audio, Call::Run, turn.inst);
@@ -135,11 +130,10 @@ impl AudioView<'_> {
     }
 
     fn in_turn(&self, turn: Turn, stage: RunStage) -> Option<AudioStep>
-        requires limits { KeepsLimits self.now.shape.now }
-        requires count { length self.now.fronts.now ≡ length self.now.shape.now.insts }
+        requires view { IsView self.now }
         requires turn { IsTurn self.now.shape.now turn }
-        ensures judged { Judges self.now.shape.now self.now.fronts.now self.now.brought (audio_left self.now.shape.now (AudioStage.Within turn stage)) self.now.entry result }
-        ensures stage { IfSome result (λ step. IsStage self.now.shape.now step.stage) }
+        ensures judged { AtStage self.now (AudioStage.Within turn stage) result }
+        ensures step { IfSome result (IsStep self.now) }
     {
         match stage {
             RunStage::Attempting { most } => self.attempting(turn, most),
@@ -152,10 +146,10 @@ impl AudioView<'_> {
     }
 
     fn attempting(&self, turn: Turn, most: u32) -> Option<AudioStep>
-        requires limits { KeepsLimits self.now.shape.now }
+        requires view { IsView self.now }
         requires turn { IsTurn self.now.shape.now turn }
-        ensures judged { Judges self.now.shape.now self.now.fronts.now self.now.brought (audio_left self.now.shape.now (AudioStage.Within turn (RunStage.Attempting most))) self.now.entry result }
-        ensures stage { IfSome result (λ step. IsStage self.now.shape.now step.stage) }
+        ensures judged { AtStage self.now (AudioStage.Within turn (RunStage.Attempting most)) result }
+        ensures step { IfSome result (IsStep self.now) }
     {
         if most > 0 && is_attempt(Actor::Audio, Ring::Jobs(turn.inst), self.entry) {
             let most = most - 1;
@@ -168,11 +162,10 @@ impl AudioView<'_> {
     }
 
     fn noticing(&self, turn: Turn, most: u32) -> Option<AudioStep>
-        requires limits { KeepsLimits self.now.shape.now }
-        requires count { length self.now.fronts.now ≡ length self.now.shape.now.insts }
+        requires view { IsView self.now }
         requires turn { IsTurn self.now.shape.now turn }
-        ensures judged { Judges self.now.shape.now self.now.fronts.now self.now.brought (audio_left self.now.shape.now (AudioStage.Within turn (RunStage.Noticing most))) self.now.entry result }
-        ensures stage { IfSome result (λ step. IsStage self.now.shape.now step.stage) }
+        ensures judged { AtStage self.now (AudioStage.Within turn (RunStage.Noticing most)) result }
+        ensures step { IfSome result (IsStep self.now) }
     {
         if most > 0 && is_attempt(Actor::Audio, Ring::AudioToControl, self.entry) {
             let most = most - 1;
@@ -187,10 +180,10 @@ impl AudioView<'_> {
     }
 
     fn delivering(&self, turn: Turn, more: u32) -> Option<AudioStep>
-        requires limits { KeepsLimits self.now.shape.now }
+        requires view { IsView self.now }
         requires turn { IsTurn self.now.shape.now turn }
-        ensures judged { Judges self.now.shape.now self.now.fronts.now self.now.brought (audio_left self.now.shape.now (AudioStage.Within turn (RunStage.Delivering more))) self.now.entry result }
-        ensures stage { IfSome result (λ step. IsStage self.now.shape.now step.stage) }
+        ensures judged { AtStage self.now (AudioStage.Within turn (RunStage.Delivering more)) result }
+        ensures step { IfSome result (IsStep self.now) }
     {
         if more > 0 {
             let take = Entry::take(Actor::Audio, Ring::Responses(turn.inst));
@@ -204,8 +197,8 @@ impl AudioView<'_> {
 
     fn responding(&self, turn: Turn, more: u32) -> Option<AudioStep>
         requires { IsTurn self.now.shape.now turn }
-        ensures judged { Judges self.now.shape.now self.now.fronts.now self.now.brought (audio_left self.now.shape.now (AudioStage.Within turn (RunStage.Responding more))) self.now.entry result }
-        ensures stage { IfSome result (λ step. IsStage self.now.shape.now step.stage) }
+        ensures judged { AtStage self.now (AudioStage.Within turn (RunStage.Responding more)) result }
+        ensures step { IfSome result (IsStep self.now) }
     {
         let begin = Entry::begin(Actor::Audio, Call::Response, turn.inst);
         self.within(begin, Message::Nothing, turn, RunStage::Responded { more })
@@ -213,8 +206,8 @@ impl AudioView<'_> {
 
     fn responded(&self, turn: Turn, more: u32) -> Option<AudioStep>
         requires { IsTurn self.now.shape.now turn }
-        ensures judged { Judges self.now.shape.now self.now.fronts.now self.now.brought (audio_left self.now.shape.now (AudioStage.Within turn (RunStage.Responded more))) self.now.entry result }
-        ensures stage { IfSome result (λ step. IsStage self.now.shape.now step.stage) }
+        ensures judged { AtStage self.now (AudioStage.Within turn (RunStage.Responded more)) result }
+        ensures step { IfSome result (IsStep self.now) }
     {
         let end = Entry::end(Actor::Audio, Call::Response, turn.inst);
         self.within(end, Message::Nothing, turn, RunStage::Delivering { more })
@@ -222,8 +215,8 @@ impl AudioView<'_> {
 
     fn ending(&self, turn: Turn) -> Option<AudioStep>
         requires { IsTurn self.now.shape.now turn }
-        ensures judged { Judges self.now.shape.now self.now.fronts.now self.now.brought (audio_left self.now.shape.now (AudioStage.Within turn RunStage.Ending)) self.now.entry result }
-        ensures stage { IfSome result (λ step. IsStage self.now.shape.now step.stage) }
+        ensures judged { AtStage self.now (AudioStage.Within turn RunStage.Ending) result }
+        ensures step { IfSome result (IsStep self.now) }
     {
         let end = Entry::end(Actor::Audio, Call::EndRun, turn.inst);
         let stage = AudioStage::Running {
@@ -235,18 +228,20 @@ impl AudioView<'_> {
 
     // Audio goes on within a turn, if the entry is the one that is wanted.
     fn within(&self, wanted: Entry, about: Message, turn: Turn, stage: RunStage) -> Option<AudioStep>
-        requires { IsTurn self.now.shape.now turn }
+        requires about { IsThere self.now.shape.now about }
+        requires turn { IsTurn self.now.shape.now turn }
         ensures value { result ≡ audio_goes (same_entry wanted self.now.entry) about (AudioStage.Within turn stage) }
-        ensures stage { IfSome result (λ step. IsStage self.now.shape.now step.stage) }
+        ensures step { IfSome result (IsStep self.now) }
     {
         self.expect(wanted, about, AudioStage::Within { turn, stage })
     }
 
     // Audio goes on within a turn.
     fn go_on(&self, about: Message, turn: Turn, stage: RunStage) -> Option<AudioStep>
-        requires { IsTurn self.now.shape.now turn }
+        requires about { IsThere self.now.shape.now about }
+        requires turn { IsTurn self.now.shape.now turn }
         ensures value { result ≡ audio_goes true about (AudioStage.Within turn stage) }
-        ensures stage { IfSome result (λ step. IsStage self.now.shape.now step.stage) }
+        ensures step { IfSome result (IsStep self.now) }
     {
         let stage = AudioStage::Within { turn, stage };
         Some(AudioStep { about, stage })
@@ -254,9 +249,10 @@ impl AudioView<'_> {
 
     // Audio sends control a front, or finds the ring full.
     fn sent(&self, inst: u32, stage: AudioStage) -> Option<AudioStep>
-        requires { IsStage self.now.shape.now stage }
+        requires inst { inst < length self.now.shape.now.insts }
+        requires stage { IsStage self.now.shape.now stage }
         ensures value { result ≡ audio_goes (same_entry (send_of Actor.Audio Ring.AudioToControl) self.now.entry || same_entry (full_of Actor.Audio Ring.AudioToControl) self.now.entry) (Message.Part inst) stage }
-        ensures stage { IfSome result (λ step. IsStage self.now.shape.now step.stage) }
+        ensures step { IfSome result (IsStep self.now) }
     {
         let send = Entry::send(Actor::Audio, Ring::AudioToControl);
         let full = Entry::full(Actor::Audio, Ring::AudioToControl);
@@ -270,9 +266,10 @@ impl AudioView<'_> {
 
     // Audio goes on to a stage, if the entry is the one that is wanted.
     fn expect(&self, wanted: Entry, about: Message, stage: AudioStage) -> Option<AudioStep>
-        requires { IsStage self.now.shape.now stage }
+        requires about { IsThere self.now.shape.now about }
+        requires stage { IsStage self.now.shape.now stage }
         ensures value { result ≡ audio_goes (same_entry wanted self.now.entry) about stage }
-        ensures stage { IfSome result (λ step. IsStage self.now.shape.now step.stage) }
+        ensures step { IfSome result (IsStep self.now) }
     {
         if is_same(wanted, self.entry) {
             Some(AudioStep { about, stage })

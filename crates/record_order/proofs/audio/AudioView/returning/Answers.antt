@@ -25,7 +25,7 @@ returns-then-inst-len-clause-judged c =
     let less : from + n < length v.shape.now.insts = omega arith in
     let sent : Bool = same_entry (send_of Audio AudioToControl) v.entry || same_entry (full_of Audio AudioToControl) v.entry in
     λ (h : History) are.
-        send_next v.shape.now h (meaning_of v.brought) v.entry v.fronts.now c.args.block from n are c.requires.count is_n less
+        send_next v.shape.now h (meaning_of v.brought) v.entry v.fronts.now c.args.block from n are c.requires.view.count is_n less
         ∙ made_goes v.shape.now sent (Part (from + n)) (Returning c.args.block (from + n + 1)) c.sent.result c.sent.ensures.value
 
 pub returns-else-inst-len-clause-judged : goal.returns-else-inst-len-clause-judged
@@ -39,4 +39,4 @@ returns-else-inst-len-clause-judged c =
     let is_n : n ≡ position_or_len is_wanted (drop from v.fronts.now) = c.first_wanted.ensures.value ∙ ap (position_or_len is_wanted) rest in
     let past : length v.shape.now.insts ≤ from + n = omega arith in
     λ (h : History) are.
-        send_none v.shape.now h (meaning_of v.brought) v.entry v.fronts.now c.args.block from n are c.requires.count is_n past ∙ c.running.ensures.judged h are
+        send_none v.shape.now h (meaning_of v.brought) v.entry v.fronts.now c.args.block from n are c.requires.view.count is_n past ∙ c.running.ensures.judged h are

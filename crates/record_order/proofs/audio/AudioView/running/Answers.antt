@@ -24,7 +24,7 @@ returns-then-place-plan-clause-judged c =
     let less : from + n < length v.shape.now.plan = subst (λ (xs : List ℕ). from + n < length xs) same c.if-place-plan.true in
     let is : get_or plan (from + n) 0 ≡ get_or v.shape.now.plan (from + n) 0 = ap (λ xs. get_or xs (from + n) 0) same in
     λ (h : History) are.
-        run_next v.shape.now h (meaning_of v.brought) v.entry v.fronts.now c.args.block from n (get_or plan (from + n) 0) are c.requires.count c.requires.limits.plan is_n less is
+        run_next v.shape.now h (meaning_of v.brought) v.entry v.fronts.now c.args.block from n (get_or plan (from + n) 0) are c.requires.view.count c.requires.view.limits.plan is_n less is
         ∙ c.begin.ensures.judged h are
 
 pub returns-else-place-plan-clause-judged : goal.returns-else-place-plan-clause-judged
@@ -40,5 +40,5 @@ returns-else-place-plan-clause-judged c =
     let past : length v.shape.now.plan ≤ from + n = subst (λ (xs : List ℕ). length xs ≤ from + n) same c.if-place-plan.false in
     let answer = c.expect.ensures.value ∙ ap (λ it. audio_goes (same_entry it v.entry) Nothing (Before (block + 1))) c.done.ensures in
     λ (h : History) are.
-        run_none v.shape.now h (meaning_of v.brought) v.entry v.fronts.now block from n are c.requires.count c.requires.limits.plan is_n past
+        run_none v.shape.now h (meaning_of v.brought) v.entry v.fronts.now block from n are c.requires.view.count c.requires.view.limits.plan is_n past
         ∙ wanted v.shape.now (same_entry (done_of block) v.entry) Nothing (Before (block + 1)) _ c.expect.result answer
