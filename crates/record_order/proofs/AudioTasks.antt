@@ -29,7 +29,7 @@ use Rattle.record_order.specs.declared.message.Message.{Message}
 use Rattle.record_order.specs.Message.{meaning_of}
 use Rattle.record_order.specs.Audio.{blocks_left, runs_left, fronts_left, audio_left, audio_follows, audio_goes}
 use Rattle.record_order.specs.Fronts.{place_of, is_here, is_wanted, has_front, AreFronts}
-use Rattle.record_order.proofs.Follow.{made, only_made}
+use Rattle.record_order.proofs.Follow.{made, only_made, not_due, is_due}
 
 -- ---- lists of tasks
 
@@ -78,15 +78,6 @@ made_goes s false about stage answer is = ap (audio_follows s) (sym is)
 module _ (s : Shape) (h : History) (taken : Meant) (e : Entry) where
   abbrev Of : List Task → Option Follows
   Of tasks = follow s h taken tasks e
-
-  -- a move that isn't asked for passes
-  not_due : (b : Bool) (m : Move) (tasks : List Task) (rest : Option Follows) → b ≡ false → then_left (where_due b m) tasks rest ≡ rest
-  not_due true m tasks rest isnt = absurd (true≢false isnt)
-  not_due false m tasks rest isnt = refl
-
-  is_due : (b : Bool) (m : Move) (tasks : List Task) (rest : Option Follows) → b ≡ true → then_left (where_due b m) tasks rest ≡ then_left m tasks rest
-  is_due true m tasks rest holds = refl
-  is_due false m tasks rest holds = absurd (true≢false (sym holds))
 
   -- the instances whose fronts aren't here pass
   pub skip_runs : (p : ℕ → Bool) (xs : List ℕ) (tail : List Task) → All (λ inst. p inst ≡ law.is_here (law.front_place inst h)) xs

@@ -1,5 +1,5 @@
 -- What an entry makes of tasks, one kind of task at a time.
-use Rattle.std.proofs.Common.{◌≡◌, ℕ, zero, suc, ◌+◌, ◌-◌, ◌<◌, ◌≤◌, nat_lt, Bool, true, false, not, ◌&&◌, ◌||◌, cond, List, [], ◌∷◌, ◌++◌, length, Option, Some, None, refl, sym, ap, ◌∙◌, ⊎_elim, arith}
+use Rattle.std.proofs.Common.{◌≡◌, ℕ, zero, suc, ◌+◌, ◌-◌, ◌<◌, ◌≤◌, nat_lt, Bool, true, false, not, ◌&&◌, ◌||◌, cond, List, [], ◌∷◌, ◌++◌, length, Option, Some, None, refl, sym, ap, ◌∙◌, ⊎_elim, true≢false, arith}
 use Rattle.std.specs.List.{position, position_or_len}
 use Rattle.std.specs.Option.{unwrap_or}
 use Rattle.std.proofs.lemmas.Bool.Decides.{leb_tells}
@@ -8,7 +8,7 @@ use Rattle.step_law.specs.declared.entry.Entry.{Entry}
 use Rattle.record_law.specs.declared.shape.Shape.{Shape}
 use Rattle.record_law.specs.Entries.{same_entry}
 use Rattle.record_law.specs.Message.{Message, History}
-use Rattle.record_law.specs.Task.{Task, Move, only_if, may_be}
+use Rattle.record_law.specs.Task.{Task, Move, only_if, may_be, where_due}
 use Rattle.record_law.specs.Task.Task.{one}
 use Rattle.record_law.specs.Task.Move.{refuses, passes, goes}
 use Rattle.record_law.specs.Protocol.{Follows, then_left, follow}
@@ -41,3 +41,12 @@ made_or false message tasks otherwise = otherwise
 pub may_made : (b : Bool) (message : Message) (first tasks : List Task) (rest : Option Follows) → then_left (may_be b message first) tasks rest ≡ made_or b message (first ++ tasks) rest
 may_made true message first tasks rest = refl
 may_made false message first tasks rest = refl
+
+-- a move that isn't asked for passes
+pub not_due : (b : Bool) (m : Move) (tasks : List Task) (rest : Option Follows) → b ≡ false → then_left (where_due b m) tasks rest ≡ rest
+not_due true m tasks rest isnt = absurd (true≢false isnt)
+not_due false m tasks rest isnt = refl
+
+pub is_due : (b : Bool) (m : Move) (tasks : List Task) (rest : Option Follows) → b ≡ true → then_left (where_due b m) tasks rest ≡ then_left m tasks rest
+is_due true m tasks rest holds = refl
+is_due false m tasks rest holds = absurd (true≢false (sym holds))

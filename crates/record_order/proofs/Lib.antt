@@ -1,3 +1,6 @@
 pub mod Follow
 pub mod FrontTables
 pub mod AudioTasks
+pub mod BackTables
+pub mod LocalTables
+pub mod WorkerTasks

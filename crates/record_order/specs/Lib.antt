@@ -4,3 +4,7 @@ pub mod There
 pub mod Fronts
 pub mod Audio
 pub mod AudioView
+pub mod Backs
+pub mod Locals
+pub mod Worker
+pub mod WorkerView

@@ -3,9 +3,13 @@
 
 mod audio;
 mod audio_stage;
+mod backs;
 mod entry;
 mod fronts;
+mod locals;
 mod message;
 mod shape;
+mod worker;
+mod worker_stage;
 
 pub use message::Message;
