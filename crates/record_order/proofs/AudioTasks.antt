@@ -1,11 +1,11 @@
 -- What an entry of audio makes of the tasks of a stage.
-use Rattle.std.proofs.Common.{◌≡◌, ℕ, zero, suc, ◌+◌, ◌-◌, ◌<◌, ◌≤◌, Bool, true, false, not, ◌||◌, cond, List, [], ◌∷◌, ◌++◌, length, map, drop, get_or, All, Option, Some, None, refl, sym, ap, ◌∙◌, ⊎_elim, true≢false, arith, append_assoc}
+use Rattle.std.proofs.Common.{◌≡◌, ℕ, zero, suc, ◌+◌, ◌-◌, ◌<◌, ◌≤◌, Bool, true, false, not, ◌||◌, cond, List, [], ◌∷◌, ◌++◌, length, map, drop, get_or, All, Option, Some, refl, sym, ap, ◌∙◌, arith, append_assoc}
 use Rattle.std.specs.List.{slice_get, position_or_len, range_with_len}
 use Rattle.std.specs.Option.{option_map_or}
-use Rattle.std.proofs.lemmas.Bool.{cases_Bool, not-false}
+use Rattle.std.proofs.lemmas.Bool.{not-false}
 use Rattle.std.proofs.lemmas.List.{drop-drop, drop_more, get_or-drop, length-drop, drop_all}
 use Rattle.std.proofs.lemmas.List.Elements.{All-head, All-tail, All-drop, All-get_or, All-weaker}
-use Rattle.std.proofs.lemmas.List.Sums.{prefix_len_stops, prefix_len-le-length}
+use Rattle.std.proofs.lemmas.List.Sums.{prefix_len_stops}
 use Rattle.std.proofs.lemmas.Option.{slice_get-get_or}
 use Rattle.step_law.specs.declared.actor.Actor.TheVariants.{Audio}
 use Rattle.step_law.specs.declared.call.Call.TheVariants.{Run}
@@ -17,9 +17,8 @@ use Rattle.record_law.specs.Audio as law
 use Rattle.record_law.specs.Entries.{same_entry}
 use Rattle.record_law.specs.Message.{Message as Meant, History}
 use Rattle.record_law.specs.Message.Message.{nothing, part}
-use Rattle.record_law.specs.Task.{Task, Move, only_if, where_due}
+use Rattle.record_law.specs.Task.{Task, only_if}
 use Rattle.record_law.specs.Task.Task.{one, look_messages, return_front, running}
-use Rattle.record_law.specs.Task.Move.{refuses, passes, goes}
 use Rattle.record_law.specs.Protocol.{Follows, then_left, follow}
 use Rattle.record_order.specs.declared.fronts.Place.{Place}
 use Rattle.record_order.specs.declared.fronts.Place.TheVariants.{Here}

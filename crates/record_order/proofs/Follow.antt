@@ -1,17 +1,12 @@
 -- What an entry makes of tasks, one kind of task at a time.
-use Rattle.std.proofs.Common.{◌≡◌, ℕ, zero, suc, ◌+◌, ◌-◌, ◌<◌, ◌≤◌, nat_lt, Bool, true, false, not, ◌&&◌, ◌||◌, cond, List, [], ◌∷◌, ◌++◌, length, Option, Some, None, refl, sym, ap, ◌∙◌, ⊎_elim, true≢false, arith}
+use Rattle.std.proofs.Common.{◌≡◌, ℕ, suc, ◌≤◌, Bool, true, false, not, cond, List, ◌++◌, length, Option, Some, None, refl, sym, ap, ◌∙◌, ⊎_elim, true≢false, arith}
 use Rattle.std.specs.List.{position, position_or_len}
 use Rattle.std.specs.Option.{unwrap_or}
 use Rattle.std.proofs.lemmas.Bool.Decides.{leb_tells}
 use Rattle.std.proofs.lemmas.List.Sums.{prefix_len-le-length}
-use Rattle.step_law.specs.declared.entry.Entry.{Entry}
-use Rattle.record_law.specs.declared.shape.Shape.{Shape}
-use Rattle.record_law.specs.Entries.{same_entry}
-use Rattle.record_law.specs.Message.{Message, History}
+use Rattle.record_law.specs.Message.{Message}
 use Rattle.record_law.specs.Task.{Task, Move, only_if, may_be, where_due}
-use Rattle.record_law.specs.Task.Task.{one}
-use Rattle.record_law.specs.Task.Move.{refuses, passes, goes}
-use Rattle.record_law.specs.Protocol.{Follows, then_left, follow}
+use Rattle.record_law.specs.Protocol.{Follows, then_left}
 
 -- the first that passes, or the length
 pub or_length : {X : Type 0} (p : X → Bool) (xs : List X) → unwrap_or (position p xs) (length xs) ≡ position_or_len p xs

@@ -4,3 +4,5 @@ pub mod AudioTasks
 pub mod BackTables
 pub mod LocalTables
 pub mod WorkerTasks
+pub mod ControlTasks
+pub mod ControlActs

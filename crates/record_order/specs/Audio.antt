@@ -1,16 +1,14 @@
 -- What audio has left to do at each stage of its work, and what an entry makes of that.
-use Rattle.std.specs.Prelude.{◌≡◌, ℕ, ◌+◌, ◌-◌, ◌<◌, ◌≤◌, Bool, true, false, List, [], ◌∷◌, ◌++◌, map, drop, length, Option, Some, None}
+use Rattle.std.specs.Prelude.{ℕ, ◌+◌, ◌-◌, ◌<◌, ◌≤◌, Bool, true, false, List, [], ◌∷◌, ◌++◌, map, drop, length, Option, Some, None}
 use Rattle.std.specs.List.{range_with_len}
 use Rattle.step_law.specs.declared.actor.Actor.TheVariants.{Audio}
 use Rattle.step_law.specs.declared.call.Call.TheVariants.{Run, Response, EndRun}
-use Rattle.step_law.specs.declared.entry.Entry.{Entry}
-use Rattle.step_law.specs.declared.ring.Ring.TheVariants.{ControlToAudio, Jobs, Responses}
-use Rattle.step_law.specs.Entry.{done_of, begin_of, end_of, stop_of}
+use Rattle.step_law.specs.declared.ring.Ring.TheVariants.{ControlToAudio, Jobs}
+use Rattle.step_law.specs.Entry.{done_of, end_of, stop_of}
 use Rattle.record_law.specs.declared.shape.Shape.{Shape}
 use Rattle.record_law.specs.Audio.{cycles, times, delivery, responding, at_most, whole_call}
-use Rattle.record_law.specs.Message.{History}
 use Rattle.record_law.specs.Message.Message.{nothing}
-use Rattle.record_law.specs.Protocol.{Follows, follow}
+use Rattle.record_law.specs.Protocol.{Follows}
 use Rattle.record_law.specs.Shape.{works, replies}
 use Rattle.record_law.specs.Task.{Task}
 use Rattle.record_law.specs.Task.Task.{one, take_from, attempts, look_messages, return_front, running, notices}
@@ -20,11 +18,8 @@ use Rattle.record_order.specs.declared.audio_stage.AudioStep.{AudioStep}
 use Rattle.record_order.specs.declared.audio_stage.RunStage.{RunStage}
 use Rattle.record_order.specs.declared.audio_stage.RunStage.TheVariants.{Attempting, Noticing, Delivering, Responding, Responded, Ending}
 use Rattle.record_order.specs.declared.audio_stage.Turn.{Turn}
-use Rattle.record_order.specs.declared.fronts.Place.{Place}
 use Rattle.record_order.specs.declared.message.Message.{Message}
-use Rattle.record_order.specs.Fronts.{AreFronts}
 use Rattle.record_order.specs.Message.{meaning_of}
-use Rattle.record_order.specs.There.{IsThere}
 
 -- the blocks from one on, and the stop
 abbrev pub blocks_left : Shape → ℕ → List Task

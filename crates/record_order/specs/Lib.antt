@@ -8,3 +8,6 @@ pub mod Backs
 pub mod Locals
 pub mod Worker
 pub mod WorkerView
+pub mod Progress
+pub mod Control
+pub mod ControlView

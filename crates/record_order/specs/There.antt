@@ -1,5 +1,5 @@
 -- Messages that name what is there in a session.
-use Rattle.std.specs.Prelude.{ℕ, ◌<◌, List, length}
+use Rattle.std.specs.Prelude.{◌<◌, length}
 use Rattle.record_law.specs.declared.shape.Shape.{Shape}
 use Rattle.record_order.specs.declared.message.Message.{Message}
 use Rattle.record_order.specs.declared.message.Message.TheVariants.{Nothing, Body, Notice, Input, Lend, Part, Give, Save, Restore, Answer, Close}

@@ -1,19 +1,13 @@
 -- What a worker has left to do at each stage of its work, and what an entry makes of that.
-use Rattle.std.specs.Prelude.{◌≡◌, ℕ, ◌-◌, ◌<◌, ◌≤◌, ◌^◌, nat_lt, min, Bool, true, false, List, [], ◌∷◌, ◌++◌, length, slice_get, Option, Some, None}
-use Rattle.std.specs.Option.{option_map_or}
-use Rattle.step_law.specs.declared.actor.Actor.{Actor}
+use Rattle.std.specs.Prelude.{ℕ, ◌<◌, Bool, true, false, List, [], ◌∷◌, ◌++◌, length, Option, Some, None}
 use Rattle.step_law.specs.declared.actor.Actor.TheVariants as actor
 use Rattle.step_law.specs.declared.call.Call.TheVariants as call
-use Rattle.step_law.specs.declared.entry.Entry.{Entry}
-use Rattle.step_law.specs.declared.entry.Kind.TheVariants.{Take, Send}
 use Rattle.step_law.specs.declared.ring.Ring.TheVariants as ring
 use Rattle.step_law.specs.Entry.{begin_of, end_of}
 use Rattle.record_law.specs.declared.shape.Shape.{Shape}
-use Rattle.record_law.specs.Audio.{at_most, whole_call}
-use Rattle.record_law.specs.History.{count}
-use Rattle.record_law.specs.Message.{History}
+use Rattle.record_law.specs.Audio.{at_most}
 use Rattle.record_law.specs.Message.Message.{nothing, answer, save, restore}
-use Rattle.record_law.specs.Protocol.{Follows, follow}
+use Rattle.record_law.specs.Protocol.{Follows}
 use Rattle.record_law.specs.Shape.{works}
 use Rattle.record_law.specs.Task.{Task}
 use Rattle.record_law.specs.Task.Task.{one, attempts, serving, local_jobs}

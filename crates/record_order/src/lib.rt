@@ -4,10 +4,15 @@
 mod audio;
 mod audio_stage;
 mod backs;
+mod control;
+mod control_action;
+mod control_closing;
+mod control_stage;
 mod entry;
 mod fronts;
 mod locals;
 mod message;
+mod progress;
 mod shape;
 mod worker;
 mod worker_stage;

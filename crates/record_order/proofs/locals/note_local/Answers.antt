@@ -1,4 +1,4 @@
-use Rattle.std.proofs.Common.{◌∷◌, sym, subst, ap, ◌∙◌}
+use Rattle.std.proofs.Common.{◌∷◌, sym, subst, ◌∙◌}
 use Rattle.record_law.specs.Message.{Step, History, Message}
 use Rattle.record_order.specs.Locals.{AreLocals}
 use Rattle.record_order.proofs.LocalTables.{noted_set, noted_past, noted_none}

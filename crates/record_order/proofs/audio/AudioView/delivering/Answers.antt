@@ -1,4 +1,4 @@
-use Rattle.std.proofs.Common.{◌++◌, ◌-◌, ◌∷◌, [], ap, ◌∙◌}
+use Rattle.std.proofs.Common.{◌++◌, ◌-◌, ap, ◌∙◌}
 use Rattle.step_law.specs.declared.actor.Actor.TheVariants.{Audio}
 use Rattle.step_law.specs.declared.call.Call.TheVariants.{EndRun}
 use Rattle.step_law.specs.declared.ring.Ring.TheVariants.{Responses}

@@ -6,8 +6,8 @@ use Rattle.record_law.specs.Entries.{same_entry}
 use Rattle.record_law.specs.History.{waiting}
 use Rattle.record_law.specs.Message.{History}
 use Rattle.record_law.specs.Protocol.{follow}
-use Rattle.record_law.specs.Task.{Task, Move, only_if}
-use Rattle.record_law.specs.Task.Task.{serving, local_jobs}
+use Rattle.record_law.specs.Task.{Task, only_if}
+use Rattle.record_law.specs.Task.Task.{local_jobs}
 use Rattle.record_law.specs.Worker.{work_on}
 use Rattle.record_order.specs.declared.message.Message.TheVariants.{Answer}
 use Rattle.record_order.specs.declared.worker_stage.AfterWork.TheVariants.{Restored}
