@@ -1,6 +1,8 @@
 pub mod Follow
+pub mod OwnSteps
 pub mod FrontTables
 pub mod AudioTasks
+pub mod TrackedAudio
 pub mod BackTables
 pub mod LocalTables
 pub mod WorkerTasks

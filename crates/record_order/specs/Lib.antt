@@ -11,3 +11,4 @@ pub mod WorkerView
 pub mod Progress
 pub mod Control
 pub mod ControlView
+pub mod Tracked

@@ -19,6 +19,7 @@ use record_law::Shape;
 use step_law::{Actor, Call, Entry, Ring};
 
 /// What audio judges an entry by: the session, the fronts, and what a take brings.
+#[derive(Drop)]
 pub(crate) struct AudioView<'a> {
     pub(crate) shape: &'a Shape,
     pub(crate) fronts: &'a Items<Place>,

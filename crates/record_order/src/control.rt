@@ -12,6 +12,7 @@ use record_law::Shape;
 use step_law::{Actor, Call, Entry};
 
 /// What control judges an entry by: the session, how far it has seen audio to be, and what a take brings.
+#[derive(Drop)]
 pub(crate) struct ControlView<'a> {
     pub(crate) shape: &'a Shape,
     pub(crate) progress: Option<u32>,

@@ -3,6 +3,7 @@
 
 mod audio;
 mod audio_stage;
+mod audio_tracker;
 mod backs;
 mod control;
 mod control_action;

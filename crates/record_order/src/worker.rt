@@ -20,6 +20,7 @@ use record_law::Shape;
 use step_law::{Actor, Call, Entry, Ring};
 
 /// What a worker judges an entry by: the session, what its own steps say, and what a take brings.
+#[derive(Drop)]
 pub(crate) struct WorkerView<'a> {
     pub(crate) shape: &'a Shape,
     pub(crate) worker: u32,
