@@ -3,6 +3,7 @@ pub mod OwnSteps
 pub mod FrontTables
 pub mod AudioTasks
 pub mod TrackedAudio
+pub mod TrackedControls
 pub mod BackTables
 pub mod LocalTables
 pub mod WorkerTasks

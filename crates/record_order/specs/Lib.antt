@@ -12,3 +12,5 @@ pub mod Progress
 pub mod Control
 pub mod ControlView
 pub mod Tracked
+pub mod TrackedWorker
+pub mod TrackedControl

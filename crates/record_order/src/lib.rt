@@ -9,6 +9,7 @@ mod control;
 mod control_action;
 mod control_closing;
 mod control_stage;
+mod control_tracker;
 mod entry;
 mod fronts;
 mod locals;
@@ -17,5 +18,7 @@ mod progress;
 mod shape;
 mod worker;
 mod worker_stage;
+mod worker_tracker;
 
 pub use message::Message;
+pub use worker_tracker::WorkerTracker;
