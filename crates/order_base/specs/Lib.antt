@@ -1,0 +1,4 @@
+pub mod Message
+pub mod Limits
+pub mod There
+pub mod Answer
