@@ -1,4 +1,8 @@
-ghost use Rattle.std.specs.Prelude.{[], IfSome};
+ghost use Rattle.std.specs.Prelude.{◌≡◌, ◌↔◌, [], IsTrue, IfSome};
+ghost use Rattle.step_law.specs.declared.actor.Actor.TheVariants as actor;
+ghost use Rattle.record_law.specs.declared.shape.Shape.{Shape};
+ghost use Rattle.record_law.specs.Message.{History};
+ghost use Rattle.record_law.specs.Protocol.{left_after};
 ghost use Rattle.order_base.specs.Limits.{KeepsLimits};
 ghost use Rattle.order_base.specs.There.{IsThere};
 ghost use Rattle.control_order.specs.TrackedControl.{IsControl, IsControlStep, ControlStands, ControlNext, ControlGoes};
@@ -54,6 +58,14 @@ impl ControlTracker {
         self.progress = progress_after(self.progress, entry);
         self.stage = stage;
         Some(about)
+    }
+
+    /// Whether control has ended the record, and so has nothing left to do.
+    pub fn is_over(&self) -> bool
+        ensures over { IsTrue result ↔ (self.now.stage ≡ ControlStage.Over) }
+        ensures none_left { IsTrue result → (s : Shape) (h : History) → ControlStands s self.now h → left_after s actor.Control h ≡ [] }
+    {
+        matches!(self.stage, ControlStage::Over)
     }
 
     fn next(&self, shape: &Shape, entry: Entry, brought: Message) -> Option<ControlStep>

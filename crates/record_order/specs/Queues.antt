@@ -1,6 +1,7 @@
 -- The messages that wait in all rings after a history.
 use Rattle.std.specs.Prelude.{◌≡◌, ℕ, ◌<◌, ◌≤◌, List, [], length, map, drop, true, slice_get, All, Option, Some, None, unwrap_or, option_and_then}
 use Rattle.step_law.specs.declared.entry.Entry.{Entry}
+use Rattle.step_law.specs.declared.entry.Kind.{Kind}
 use Rattle.step_law.specs.declared.entry.Kind.TheVariants as kind
 use Rattle.step_law.specs.declared.ring.Ring.{Ring}
 use Rattle.step_law.specs.Ring.{ring_at}
@@ -35,6 +36,10 @@ pub record HasQueues (room : ℕ) (queues : List Waiting) (n : ℕ) : Type 0 whe
 -- each has room for so many
 abbrev pub HaveRoom : ℕ → List Waiting → Type 0
 HaveRoom room queues = (ring : ℕ) (it : Waiting) → slice_get queues ring ≡ Some it → it.room ≡ room
+
+-- an entry of a kind names a ring that is there
+abbrev pub NamesRing : List Waiting → Kind → Entry → Type 0
+NamesRing queues it e = is_kind it e ≡ true → e.a < length queues
 
 -- a send has room
 abbrev pub HasRoom : List Waiting → Entry → Type 0

@@ -8,7 +8,8 @@ ghost use Rattle.order_base.specs.Answer.{step_of};
 ghost use Rattle.order_base.specs.Limits.{KeepsLimits};
 ghost use Rattle.order_base.specs.Message.{meaning_of};
 ghost use Rattle.order_base.specs.There.{IsThere};
-ghost use Rattle.record_order.specs.Queues.{AreQueues, AreThere, HasRoom, FindsMessage, HasQueues, HaveRoom, first_at};
+ghost use Rattle.record_order.specs.Waiting.{Waiting};
+ghost use Rattle.record_order.specs.Queues.{AreQueues, AreThere, HasRoom, FindsMessage, NamesRing, HasQueues, HaveRoom, first_at};
 
 use crate::queue::Queue;
 use lv_base::NoMemory;
@@ -45,14 +46,15 @@ impl Queues {
     /// How many messages wait in a ring.
     pub fn waiting(&self, ring: u32) -> usize
         requires { ring < length self.now.queues.items }
-        ensures { (h : History) → AreQueues self.now.queues.items h → result ≡ waiting (ring_at ring) h }
+        ensures after { (h : History) → AreQueues self.now.queues.items h → result ≡ waiting (ring_at ring) h }
+        ensures messages { (it : Waiting) → slice_get self.now.queues.items ring ≡ Some it → result ≡ length it.messages }
     {
         self.queues[ring as usize].len()
     }
 
     /// The message that an entry brings, if it is a take.
     pub fn brought(&self, entry: Entry) -> Message
-        requires { entry.a < length self.now.queues.items }
+        requires { NamesRing self.now.queues.items Kind.Take entry }
         ensures brought { (h : History) → AreQueues self.now.queues.items h → meaning_of result ≡ law.brought h entry }
         ensures there { (s : Shape) → AreThere s self.now.queues.items → IsThere s result }
     {
@@ -72,7 +74,8 @@ impl Queues {
 
     /// Notes an entry about a message: it may send on a ring, or take from one.
     pub fn note(&mut self, entry: Entry, about: Message)
-        requires ring { entry.a < length self.old.queues.items }
+        requires sends { NamesRing self.old.queues.items Kind.Send entry }
+        requires takes { NamesRing self.old.queues.items Kind.Take entry }
         requires room { HasRoom self.old.queues.items entry }
         requires finds { FindsMessage self.old.queues.items entry }
         ensures count { length self.new.queues.items ≡ length self.old.queues.items }

@@ -1,6 +1,11 @@
-ghost use Rattle.std.specs.Prelude.{◌≡◌, ◌+◌, [], length, true, IfOk, IfSome, OnOk, OnErr};
+ghost use Rattle.std.specs.Prelude.{◌≡◌, ◌+◌, [], length, true, IsTrue, IfOk, IfSome, OnOk, OnErr};
 ghost use Rattle.step_law.specs.Actor.{actor_at, actor_number};
 ghost use Rattle.record_law.specs.There.{is_actor_there, is_worker_there};
+ghost use Rattle.step_law.specs.declared.actor.Actor.TheVariants as actor;
+ghost use Rattle.record_law.specs.declared.shape.Shape.{Shape};
+ghost use Rattle.record_law.specs.History.{own};
+ghost use Rattle.record_law.specs.Message.{History};
+ghost use Rattle.record_law.specs.Protocol.{left_after};
 ghost use Rattle.order_base.specs.Limits.{KeepsLimits};
 ghost use Rattle.order_base.specs.There.{IsThere};
 ghost use Rattle.record_order.specs.Tracked.{IsTracker, Stands, Goes, HasWorkers};
@@ -55,6 +60,13 @@ impl Tracker {
             Actor::Control => self.step_control(shape, entry, brought),
             Actor::Worker(worker) => self.step_worker(shape, worker, entry, brought),
         }
+    }
+
+    /// Whether control has ended the record, which it does once all actors have done their work.
+    pub fn is_done(&self) -> bool
+        ensures { IsTrue result → (s : Shape) (h : History) → Stands s self.now h → left_after s actor.Control (own actor.Control h) ≡ [] }
+    {
+        self.control.is_over()
     }
 
     fn step_audio(&mut self, shape: &Shape, entry: Entry, brought: Message) -> Option<Message>

@@ -21,9 +21,9 @@ returns-then-is_kind-clause-brought c =
     let e = c.args.entry in
     let none : Waiting = record { room = 0; messages = [] } in
     let it : Waiting = get_or queues e.a none in
-    let at = slice_get-get_or queues e.a none c.requires in
-    let first = c.first.ensures ∙ ap first_in at in
     let take = sym c.is_kind.ensures ∙ c.if-is_kind.true in
+    let at = slice_get-get_or queues e.a none (c.requires take) in
+    let first = c.first.ensures ∙ ap first_in at in
     λ (h : History) are.
         ap meaning_of first
         ∙ first_next (ring_at e.a) it.messages h (are e.a it at)
@@ -35,6 +35,7 @@ returns-then-is_kind-clause-there c =
     let e = c.args.entry in
     let none : Waiting = record { room = 0; messages = [] } in
     let it : Waiting = get_or queues e.a none in
-    let at = slice_get-get_or queues e.a none c.requires in
+    let take = sym c.is_kind.ensures ∙ c.if-is_kind.true in
+    let at = slice_get-get_or queues e.a none (c.requires take) in
     let first = c.first.ensures ∙ ap first_in at in
     λ (s : Shape) there. subst (IsThere s) (sym first) (first_there s it.messages (there e.a it at))

@@ -5,8 +5,8 @@ use Rattle.record_law.specs.Message.{History}
 use Rattle.record_order.proofs.QueueTables.{waiting_is}
 use Rattle.record_order.proofs.queues.Queues.waiting.Goals as goal
 
-pub returns : goal.returns
-returns c =
+pub returns-clause-after : goal.returns-clause-after
+returns-clause-after c =
     let queues = c.args.self.now.queues.items in
     let it = c.index.result.now in
     let at = slice_get_read queues (length queues) c.args.ring it refl c.requires c.index.ensures in
