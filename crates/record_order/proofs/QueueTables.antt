@@ -108,12 +108,12 @@ module _ (e : Entry) (about : Message) (h : History) where
   set_queue queues new is are ring it at =
       ⊎_elim
       (λ (same : e.a ≡ ring).
-          let here : it ≡ new = get_set_same queues e.a new it (ap (slice_get (slice_set queues e.a new)) same ∙ at) in
-          subst (λ (n : ℕ). IsQueue (ring_at n) it.messages (step_of e about ∷ h)) same
-          (subst (λ (w : Waiting). IsQueue (ring_at e.a) w.messages (step_of e about ∷ h)) (sym here) is))
+      let here : it ≡ new = get_set_same queues e.a new it (ap (slice_get (slice_set queues e.a new)) same ∙ at) in
+      subst (λ (n : ℕ). IsQueue (ring_at n) it.messages (step_of e about ∷ h)) same
+      (subst (λ (w : Waiting). IsQueue (ring_at e.a) w.messages (step_of e about ∷ h)) (sym here) is))
       (λ (differ : e.a ≡ ring → ⊥).
-          kept (ring_at ring) it.messages (other Send ring differ) (other Take ring differ)
-          (are ring it (sym (get_set_other queues e.a ring new differ) ∙ at)))
+      kept (ring_at ring) it.messages (other Send ring differ) (other Take ring differ)
+      (are ring it (sym (get_set_other queues e.a ring new differ) ∙ at)))
       (cases_eq e.a ring)
 
   pub queues_sent : (queues : List Waiting) (it : Waiting) → slice_get queues e.a ≡ Some it → is_kind Send e ≡ true → AreQueues queues h
@@ -135,8 +135,8 @@ pub there_set : (s : Shape) (queues : List Waiting) (k : ℕ) (new : Waiting) �
 there_set s queues k new is are ring it at =
     ⊎_elim
     (λ (same : k ≡ ring).
-        let here : it ≡ new = get_set_same queues k new it (ap (slice_get (slice_set queues k new)) same ∙ at) in
-        subst (λ (w : Waiting). All (IsThere s) w.messages) (sym here) is)
+    let here : it ≡ new = get_set_same queues k new it (ap (slice_get (slice_set queues k new)) same ∙ at) in
+    subst (λ (w : Waiting). All (IsThere s) w.messages) (sym here) is)
     (λ (differ : k ≡ ring → ⊥). are ring it (sym (get_set_other queues k ring new differ) ∙ at))
     (cases_eq k ring)
 
@@ -144,7 +144,7 @@ pub room_set : (room : ℕ) (queues : List Waiting) (k : ℕ) (new : Waiting) �
 room_set room queues k new is have ring it at =
     ⊎_elim
     (λ (same : k ≡ ring).
-        let here : it ≡ new = get_set_same queues k new it (ap (slice_get (slice_set queues k new)) same ∙ at) in ap (λ (w : Waiting). w.room) here ∙ is)
+    let here : it ≡ new = get_set_same queues k new it (ap (slice_get (slice_set queues k new)) same ∙ at) in ap (λ (w : Waiting). w.room) here ∙ is)
     (λ (differ : k ≡ ring → ⊥). have ring it (sym (get_set_other queues k ring new differ) ∙ at))
     (cases_eq k ring)
 

@@ -69,7 +69,9 @@ impl Queues {
         requires { ring < length self.now.queues.items }
         ensures { result ≡ first_at self.now.queues.items ring }
     {
-        self.queues[ring as usize].first().unwrap_or(Message::Nothing)
+        self.queues[ring as usize]
+            .first()
+            .unwrap_or(Message::Nothing)
     }
 
     /// Notes an entry about a message: it may send on a ring, or take from one.

@@ -25,9 +25,9 @@ returns-then-is_kind-clause-brought c =
     let at = slice_get-get_or queues e.a none (c.requires take) in
     let first = c.first.ensures ∙ ap first_in at in
     λ (h : History) are.
-        ap meaning_of first
-        ∙ first_next (ring_at e.a) it.messages h (are e.a it at)
-        ∙ sym (cond-true (is_kind Take e) (next_on (ring_at e.a) h) nothing take)
+    ap meaning_of first
+    ∙ first_next (ring_at e.a) it.messages h (are e.a it at)
+    ∙ sym (cond-true (is_kind Take e) (next_on (ring_at e.a) h) nothing take)
 
 pub returns-then-is_kind-clause-there : goal.returns-then-is_kind-clause-there
 returns-then-is_kind-clause-there c =
