@@ -1,5 +1,6 @@
 ghost use Rattle.std.specs.Prelude.{◌≡◌, ◌<◌, IfOk};
 ghost use Rattle.order_base.specs.Limits.{KeepsLimits};
+ghost use Rattle.order_tests.specs.Tracked.{IsTracked};
 
 use lv_base::{Items, NoMemory};
 use order_base::is_kind;
@@ -53,7 +54,16 @@ fn inst_of(works: bool) -> ShapeInst
     }
 }
 
-// How many entries may come, from the first on.
+// How many entries of a record's text may come, from the first on.
+fn counted(alloc: Global, shape: &Shape, text: &[u8]) -> Result<usize, Fail>
+    requires limits { KeepsLimits shape.now }
+    requires workers { shape.now.workers ≡ 1 }
+    requires cells { shape.now.cells ≡ 4 }
+{
+    let record = read(alloc, text)?;
+    Ok(accepted(alloc, shape, record.entries())?)
+}
+
 fn accepted(alloc: Global, shape: &Shape, steps: &[Entry]) -> Result<usize, NoMemory>
     requires limits { KeepsLimits shape.now }
     requires workers { shape.now.workers ≡ 1 }
@@ -61,32 +71,49 @@ fn accepted(alloc: Global, shape: &Shape, steps: &[Entry]) -> Result<usize, NoMe
 {
     let mut tracker = Tracker::new(alloc, shape)?;
     let mut queues = Queues::new(alloc, shape)?;
-    let rings = 18 + 3 * shape.insts.len();
-    for (count, step) in steps.iter().enumerate() {
-        let entry = *step;
-        if entry.actor > 2 || entry.a as usize >= rings {
-            return Ok(count);
-        }
-        let brought = queues.brought(entry);
-        let Some(about) = tracker.step(shape, entry, brought) else {
-            return Ok(count);
-        };
-        let waiting = queues.waiting(entry.a);
-        if waiting > 5 || is_kind(Kind::Take, entry) && waiting == 0 {
-            return Ok(count);
-        }
-        queues.note(entry, about);
-    }
-    Ok(steps.len())
+    Ok(accepted_from(&mut tracker, &mut queues, shape, steps))
 }
 
-// The record of a session without workers' jobs may come as it stands, to its end.
+fn accepted_from(tracker: &mut Tracker, queues: &mut Queues, shape: &Shape, steps: &[Entry]) -> usize
+    requires limits { KeepsLimits shape.now }
+    requires workers { shape.now.workers ≡ 1 }
+    requires tracked { IsTracked shape.now tracker.old queues.old }
+{
+    for (count, step) in steps.iter().enumerate() {
+        if !may_come(tracker, queues, shape, *step) {
+            return count;
+        }
+    }
+    steps.len()
+}
+
+fn may_come(tracker: &mut Tracker, queues: &mut Queues, shape: &Shape, entry: Entry) -> bool
+    requires limits { KeepsLimits shape.now }
+    requires workers { shape.now.workers ≡ 1 }
+    requires tracked { IsTracked shape.now tracker.old queues.old }
+    ensures { IsTracked shape.now tracker.new queues.new }
+{
+    let rings = 18 + 3 * shape.insts.len();
+    if entry.actor > 2 || entry.a as usize >= rings {
+        return false;
+    }
+    let brought = queues.brought(entry);
+    let Some(about) = tracker.step(shape, entry, brought) else {
+        return false;
+    };
+    let waiting = queues.waiting(entry.a);
+    if waiting > 5 || is_kind(Kind::Take, entry) && waiting == 0 {
+        return false;
+    }
+    queues.note(entry, about);
+    true
+}
+
+// The record of a session without jobs may come as it stands, to its end.
 #[test]
 fn plain_record(rt: HostRuntime) -> Result<(), Fail> {
     let shape = plain_session(rt.alloc())?;
-    let record = read(rt.alloc(), PLAIN)?;
-    assert_eq!(rt; record.entries().len(), 37);
-    assert_eq!(rt; accepted(rt.alloc(), &shape, record.entries())?, 37);
+    assert_eq!(rt; counted(rt.alloc(), &shape, PLAIN)?, 37);
     Ok(())
 }
 
@@ -94,9 +121,7 @@ fn plain_record(rt: HostRuntime) -> Result<(), Fail> {
 #[test]
 fn working_record(rt: HostRuntime) -> Result<(), Fail> {
     let shape = working_session(rt.alloc())?;
-    let record = read(rt.alloc(), WORKING)?;
-    assert_eq!(rt; record.entries().len(), 20);
-    assert_eq!(rt; accepted(rt.alloc(), &shape, record.entries())?, 20);
+    assert_eq!(rt; counted(rt.alloc(), &shape, WORKING)?, 20);
     Ok(())
 }
 
@@ -104,8 +129,7 @@ fn working_record(rt: HostRuntime) -> Result<(), Fail> {
 #[test]
 fn look_left_out(rt: HostRuntime) -> Result<(), Fail> {
     let shape = plain_session(rt.alloc())?;
-    let record = read(rt.alloc(), WITHOUT_LOOK)?;
-    assert_eq!(rt; accepted(rt.alloc(), &shape, record.entries())?, 9);
+    assert_eq!(rt; counted(rt.alloc(), &shape, WITHOUT_LOOK)?, 9);
     Ok(())
 }
 
