@@ -24,8 +24,8 @@ use Rattle.audio_order.specs.declared.fronts.Place.{Place}
 use Rattle.audio_order.specs.declared.fronts.Place.TheVariants.{Here}
 use Rattle.audio_order.specs.declared.audio_stage.AudioStage.{AudioStage}
 use Rattle.audio_order.specs.declared.audio_stage.AudioStep.{AudioStep}
-use Rattle.order_base.specs.declared.message.Message.{Message}
-use Rattle.order_base.specs.Message.{meaning_of}
+use Rattle.record_terms.specs.declared.message.Message.{Message}
+use Rattle.record_terms.specs.Message.{meaning_of}
 use Rattle.audio_order.specs.Audio.{blocks_left, runs_left, fronts_left, audio_left, audio_follows, audio_goes}
 use Rattle.audio_order.specs.Fronts.{place_of, is_here, is_wanted, has_front, AreFronts}
 use Rattle.order_base.proofs.Follow.{made, only_made, not_due, is_due}

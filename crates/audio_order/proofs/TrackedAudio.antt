@@ -8,10 +8,10 @@ use Rattle.record_law.specs.Protocol.{follow, left_after}
 use Rattle.audio_order.specs.declared.audio_stage.AudioStep.{AudioStep}
 use Rattle.audio_order.specs.declared.audio_tracker.AudioTracker.{AudioTracker}
 use Rattle.audio_order.specs.declared.fronts.Place.{Place}
-use Rattle.order_base.specs.declared.message.Message.{Message}
+use Rattle.record_terms.specs.declared.message.Message.{Message}
 use Rattle.audio_order.specs.Audio.{audio_left}
 use Rattle.audio_order.specs.Fronts.{AreFronts}
-use Rattle.order_base.specs.Message.{meaning_of}
+use Rattle.record_terms.specs.Message.{meaning_of}
 use Rattle.order_base.specs.Answer.{step_of, follows_as}
 use Rattle.audio_order.specs.Tracked.{AudioStands, AudioNext, AudioGoes}
 use Rattle.order_base.proofs.OwnSteps.{goes_on}

@@ -18,8 +18,8 @@ use Rattle.audio_order.specs.declared.audio_stage.AudioStep.{AudioStep}
 use Rattle.audio_order.specs.declared.audio_stage.RunStage.{RunStage}
 use Rattle.audio_order.specs.declared.audio_stage.RunStage.TheVariants.{Attempting, Noticing, Delivering, Responding, Responded, Ending}
 use Rattle.audio_order.specs.declared.audio_stage.Turn.{Turn}
-use Rattle.order_base.specs.declared.message.Message.{Message}
-use Rattle.order_base.specs.Message.{meaning_of}
+use Rattle.record_terms.specs.declared.message.Message.{Message}
+use Rattle.record_terms.specs.Message.{meaning_of}
 
 -- the blocks from one on, and the stop
 abbrev pub blocks_left : Shape → ℕ → List Task

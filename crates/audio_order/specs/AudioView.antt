@@ -9,7 +9,7 @@ use Rattle.audio_order.specs.declared.audio_stage.AudioStep.{AudioStep}
 use Rattle.audio_order.specs.Audio.{audio_left, audio_follows, IsStage}
 use Rattle.audio_order.specs.Fronts.{AreFronts}
 use Rattle.order_base.specs.Limits.{KeepsLimits}
-use Rattle.order_base.specs.Message.{meaning_of}
+use Rattle.record_terms.specs.Message.{meaning_of}
 use Rattle.order_base.specs.There.{IsThere}
 
 -- the session keeps its limits, each instance has its front in the table, and what a take brings names what is there

@@ -6,12 +6,12 @@ use Rattle.record_law.specs.declared.shape.Shape.{Shape}
 use Rattle.record_law.specs.Message.{History}
 use Rattle.record_law.specs.Protocol.{follow, left_after}
 use Rattle.audio_order.specs.declared.audio_tracker.AudioTracker.{AudioTracker}
-use Rattle.order_base.specs.declared.message.Message.{Message}
+use Rattle.record_terms.specs.declared.message.Message.{Message}
 use Rattle.audio_order.specs.declared.audio_stage.AudioStep.{AudioStep}
 use Rattle.order_base.specs.Answer.{follows_as, step_of}
 use Rattle.audio_order.specs.Audio.{audio_left, audio_follows, IsStage}
 use Rattle.audio_order.specs.Fronts.{AreFronts}
-use Rattle.order_base.specs.Message.{meaning_of}
+use Rattle.record_terms.specs.Message.{meaning_of}
 use Rattle.order_base.specs.There.{IsThere}
 
 -- a tracker of a session

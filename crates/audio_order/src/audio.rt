@@ -12,8 +12,9 @@ ghost use Rattle.audio_order.specs.AudioView.{Judges, AtStage, IsView, IsStep};
 use crate::audio_stage::{AudioStage, AudioStep, RunStage, Turn};
 use crate::fronts::{Place, first_present, first_wanted};
 use lv_base::Items;
-use order_base::{Message, at_most, is_attempt, is_same, replies, works};
+use order_base::{at_most, is_attempt};
 use record_law::Shape;
+use record_terms::{Message, is_same, replies, works};
 use step_law::{Actor, Call, Entry, Ring};
 
 /// What audio judges an entry by: the session, the fronts, and what a take brings.

@@ -1,4 +1,4 @@
-use order_base::Message;
+use record_terms::Message;
 
 /// What audio is about to do.
 #[derive(Clone, Copy)]

@@ -7,8 +7,8 @@ use crate::audio::AudioView;
 use crate::audio_stage::{AudioStage, AudioStep};
 use crate::fronts::{Place, all_here, note_front};
 use lv_base::{Items, NoMemory};
-use order_base::Message;
 use record_law::Shape;
+use record_terms::Message;
 use std::alloc::Global;
 use step_law::Entry;
 

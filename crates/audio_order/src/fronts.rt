@@ -2,11 +2,11 @@ ghost use Rattle.std.specs.Prelude.{◌≡◌, ◌∷◌, ◌<◌, ◌≤◌, �
 ghost use Rattle.std.specs.List.{position_or_len};
 ghost use Rattle.record_law.specs.Audio as law;
 ghost use Rattle.record_law.specs.Message.{History};
-ghost use Rattle.order_base.specs.Message.{meaning_of};
+ghost use Rattle.record_terms.specs.Message.{meaning_of};
 ghost use Rattle.audio_order.specs.Fronts.{place_after, has_front, is_wanted, AreFronts};
 
 use lv_base::{Items, NoMemory};
-use order_base::{Message, is_on};
+use record_terms::{Message, is_on};
 use std::alloc::Global;
 use step_law::{Entry, Kind, Ring};
 

@@ -23,8 +23,8 @@ use Rattle.control_order.specs.declared.control_stage.ActionStage.TheVariants.{D
 use Rattle.control_order.specs.declared.control_stage.PlainStage.TheVariants.{AskFront, AwaitFront, AskBack, TakeBack, Begin, GiveBack, GiveFront}
 use Rattle.control_order.specs.declared.control_stage.ControlStage.{ControlStage}
 use Rattle.control_order.specs.declared.control_stage.ControlStep.{ControlStep}
-use Rattle.order_base.specs.declared.message.Message.{Message}
-use Rattle.order_base.specs.Message.{meaning_of}
+use Rattle.record_terms.specs.declared.message.Message.{Message}
+use Rattle.record_terms.specs.Message.{meaning_of}
 use Rattle.control_order.specs.Control.{calls_left, closing_left, control_left, control_follows, control_goes, stages_left, front_come, IsActionStage}
 use Rattle.control_order.specs.declared.control_stage.ClosingStage.TheVariants.{Telling}
 use Rattle.order_base.proofs.Follow.{made}

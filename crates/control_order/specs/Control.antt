@@ -30,8 +30,8 @@ use Rattle.control_order.specs.declared.control_stage.PlainStage.{PlainStage}
 use Rattle.control_order.specs.declared.control_stage.PlainStage.TheVariants.{AskFront, AwaitFront, AskBack, TakeBack, Begin, GiveBack, GiveFront}
 use Rattle.control_order.specs.declared.control_stage.Round.{Round}
 use Rattle.control_order.specs.declared.control_stage.Round.TheVariants.{Make, Activate, Deactivate, Cleanup}
-use Rattle.order_base.specs.declared.message.Message.{Message}
-use Rattle.order_base.specs.Message.{meaning_of}
+use Rattle.record_terms.specs.declared.message.Message.{Message}
+use Rattle.record_terms.specs.Message.{meaning_of}
 use Rattle.order_base.specs.There.{IsThere}
 
 -- ---- rounds of calls

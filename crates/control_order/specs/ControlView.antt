@@ -13,7 +13,7 @@ use Rattle.control_order.specs.declared.control_stage.ControlStage.{ControlStage
 use Rattle.control_order.specs.declared.control_stage.ControlStep.{ControlStep}
 use Rattle.control_order.specs.Control.{control_left, control_follows, taking_left, IsControlStage}
 use Rattle.order_base.specs.Limits.{KeepsLimits}
-use Rattle.order_base.specs.Message.{meaning_of}
+use Rattle.record_terms.specs.Message.{meaning_of}
 use Rattle.control_order.specs.Progress.{IsProgress}
 use Rattle.order_base.specs.There.{IsThere}
 

@@ -7,9 +7,9 @@ use Rattle.record_law.specs.Message.{History}
 use Rattle.record_law.specs.Protocol.{follow, left_after}
 use Rattle.control_order.specs.declared.control_stage.ControlStep.{ControlStep}
 use Rattle.control_order.specs.declared.control_tracker.ControlTracker.{ControlTracker}
-use Rattle.order_base.specs.declared.message.Message.{Message}
+use Rattle.record_terms.specs.declared.message.Message.{Message}
 use Rattle.control_order.specs.Control.{control_left, control_follows, IsControlStage}
-use Rattle.order_base.specs.Message.{meaning_of}
+use Rattle.record_terms.specs.Message.{meaning_of}
 use Rattle.control_order.specs.Progress.{IsProgress}
 use Rattle.order_base.specs.There.{IsThere}
 use Rattle.order_base.specs.Answer.{follows_as, step_of}

@@ -6,8 +6,8 @@ ghost use Rattle.order_base.specs.There.{IsThere};
 ghost use Rattle.control_order.specs.ControlView.{AtStage, IsView, IsStep};
 
 use crate::control_stage::{ActionStage, ControlStage, ControlStep, Round};
-use order_base::{Message, is_same};
 use record_law::Shape;
+use record_terms::{Message, is_same};
 use step_law::{Actor, Call, Entry};
 
 /// What control judges an entry by: the session, how far it has seen audio to be, and what a take brings.

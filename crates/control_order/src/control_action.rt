@@ -6,14 +6,14 @@ ghost use Rattle.record_law.specs.Shape.{worker_of};
 ghost use Rattle.record_law.specs.Task.Stage.{due, tell, ask, hear};
 ghost use Rattle.control_order.specs.Control.{IsActionStage, actions_left, plain_left, stages_left, front_come, control_goes};
 ghost use Rattle.control_order.specs.ControlView.{Acts, AtStage, Ends, IsView, IsStep, sees_block};
-ghost use Rattle.order_base.specs.Message.{meaning_of};
+ghost use Rattle.record_terms.specs.Message.{meaning_of};
 ghost use Rattle.order_base.specs.There.{IsThere};
 
 use crate::control::ControlView;
 use crate::control_stage::{ActionStage, ClosingStage, ControlStage, ControlStep, PlainStage};
 use crate::progress::is_reached;
-use order_base::{Message, is_same, worker_of};
 use record_law::{ActionKind, ShapeAction};
+use record_terms::{Message, is_same, worker_of};
 use step_law::{Actor, Call, Entry, Ring};
 
 impl ControlView<'_> {

@@ -9,8 +9,8 @@ ghost use Rattle.control_order.specs.ControlView.{AtStage, IsView, IsStep, Judge
 
 use crate::control::ControlView;
 use crate::control_stage::{ClosingStage, ControlStage, ControlStep, FinishStage, Round};
-use order_base::{Message, is_same};
 use record_law::{ActionKind, ShapeAction};
+use record_terms::{Message, is_same};
 use step_law::{Actor, Call, Entry, Ring};
 
 impl ControlView<'_> {

@@ -1,4 +1,4 @@
-use order_base::Message;
+use record_terms::Message;
 use step_law::Ring;
 
 /// A call that control makes on each instance in turn.

@@ -10,8 +10,8 @@ ghost use Rattle.control_order.specs.TrackedControl.{IsControl, IsControlStep, C
 use crate::control::ControlView;
 use crate::control_stage::{ActionStage, ControlStage, ControlStep, Round};
 use crate::progress::progress_after;
-use order_base::Message;
 use record_law::Shape;
+use record_terms::Message;
 use step_law::Entry;
 
 /// What control is doing in a record, and how far it has seen audio to be.

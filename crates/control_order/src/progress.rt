@@ -2,7 +2,7 @@ ghost use Rattle.std.specs.Prelude.{◌≡◌, ◌∷◌};
 ghost use Rattle.record_law.specs.Message.{Message, History};
 ghost use Rattle.control_order.specs.Progress.{IsProgress, further, is_reached};
 
-use order_base::is_kind;
+use record_terms::is_kind;
 use step_law::{Entry, Kind};
 
 /// Whether control has seen that a block is reached.

@@ -1,3 +1,4 @@
 pub mod Lists
 pub mod Follow
 pub mod OwnSteps
+pub mod Sessions

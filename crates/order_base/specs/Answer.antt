@@ -4,8 +4,8 @@ use Rattle.step_law.specs.declared.entry.Entry.{Entry}
 use Rattle.record_law.specs.Message.{Step}
 use Rattle.record_law.specs.Protocol.{Follows}
 use Rattle.record_law.specs.Task.{Task}
-use Rattle.order_base.specs.declared.message.Message.{Message}
-use Rattle.order_base.specs.Message.{meaning_of}
+use Rattle.record_terms.specs.declared.message.Message.{Message}
+use Rattle.record_terms.specs.Message.{meaning_of}
 
 -- what an entry is about, where tasks are left
 abbrev pub follows_as : List Task → Option Message → Option Follows

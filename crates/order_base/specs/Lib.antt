@@ -1,4 +1,3 @@
-pub mod Message
 pub mod Limits
 pub mod There
 pub mod Answer

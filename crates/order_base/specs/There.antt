@@ -1,8 +1,8 @@
 -- Messages that name what is there in a session.
 use Rattle.std.specs.Prelude.{◌<◌, length}
 use Rattle.record_law.specs.declared.shape.Shape.{Shape}
-use Rattle.order_base.specs.declared.message.Message.{Message}
-use Rattle.order_base.specs.declared.message.Message.TheVariants.{Nothing, Body, Notice, Input, Lend, Part, Give, Save, Restore, Answer, Close}
+use Rattle.record_terms.specs.declared.message.Message.{Message}
+use Rattle.record_terms.specs.declared.message.Message.TheVariants.{Nothing, Body, Notice, Input, Lend, Part, Give, Save, Restore, Answer, Close}
 
 -- the instance that a message names is there
 abbrev pub IsThere : Shape → Message → Type 0

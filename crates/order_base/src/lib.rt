@@ -1,10 +1,6 @@
-//! What all judges of the order of work share: messages, entries compared, and lookups in a session.
+//! What all judges of the order of work share: attempts to send, and the limits of a session that they rely on.
 #![tactic(auto)]
 
-mod entry;
-mod message;
-mod shape;
+mod attempt;
 
-pub use entry::{at_most, is_attempt, is_kind, is_on, is_same};
-pub use message::Message;
-pub use shape::{replies, worker_of, works};
+pub use attempt::{at_most, is_attempt};

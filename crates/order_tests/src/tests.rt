@@ -3,9 +3,9 @@ ghost use Rattle.order_base.specs.Limits.{KeepsLimits};
 ghost use Rattle.order_tests.specs.Tracked.{IsTracked};
 
 use lv_base::{Items, NoMemory};
-use order_base::is_kind;
 use record_law::{Shape, ShapeInst};
 use record_order::{Queues, Tracker};
+use record_terms::is_kind;
 use std::alloc::Global;
 use std::test::Fail;
 use step_law::{Entry, Kind};
@@ -74,7 +74,12 @@ fn accepted(alloc: Global, shape: &Shape, steps: &[Entry]) -> Result<usize, NoMe
     Ok(accepted_from(&mut tracker, &mut queues, shape, steps))
 }
 
-fn accepted_from(tracker: &mut Tracker, queues: &mut Queues, shape: &Shape, steps: &[Entry]) -> usize
+fn accepted_from(
+    tracker: &mut Tracker,
+    queues: &mut Queues,
+    shape: &Shape,
+    steps: &[Entry],
+) -> usize
     requires limits { KeepsLimits shape.now }
     requires workers { shape.now.workers ≡ 1 }
     requires tracked { IsTracked shape.now tracker.old queues.old }

@@ -21,9 +21,9 @@ use Rattle.audio_order.specs.Tracked.{AudioStands, AudioGoes}
 use Rattle.control_order.specs.declared.control_tracker.ControlTracker.{ControlTracker}
 use Rattle.control_order.specs.Control.{control_left}
 use Rattle.control_order.specs.TrackedControl.{ControlStands, ControlGoes}
-use Rattle.order_base.specs.declared.message.Message.{Message}
+use Rattle.record_terms.specs.declared.message.Message.{Message}
 use Rattle.order_base.specs.Answer.{follows_as, step_of}
-use Rattle.order_base.specs.Message.{meaning_of}
+use Rattle.record_terms.specs.Message.{meaning_of}
 use Rattle.order_base.proofs.Lists.{get_set_same, get_set_other}
 use Rattle.order_base.proofs.OwnSteps.{own_newest, own_other}
 use Rattle.worker_order.specs.declared.worker_tracker.WorkerTracker.{WorkerTracker}

@@ -1,10 +1,10 @@
 -- The messages that wait in rings, and what a step does to them.
-use Rattle.std.proofs.Common.{◌≡◌, ℕ, zero, suc, ◌+◌, ◌-◌, ◌<◌, ◌≤◌, ◌==◌, Bool, true, false, ◌&&◌, cond, List, [], ◌∷◌, ◌++◌, length, map, drop, slice_set, All, Option, Some, None, refl, sym, ap, subst, ◌∙◌, ⊎_elim, arith, eqb-true, ne_eqb, eq-eqb}
+use Rattle.std.proofs.Common.{◌≡◌, ℕ, zero, suc, ◌+◌, ◌-◌, ◌<◌, ◌==◌, Bool, true, false, List, [], ◌∷◌, ◌++◌, length, map, drop, slice_set, All, Some, refl, sym, ap, subst, ◌∙◌, ⊎_elim, arith, eqb-true, ne_eqb, eq-eqb}
 use Rattle.std.specs.List.{slice_get}
 use Rattle.std.specs.Option.{unwrap_or}
-use Rattle.std.proofs.lemmas.Bool.{cases_eq, and_left, and_right, and_from, cond-true}
+use Rattle.std.proofs.lemmas.Bool.{cases_eq, and_left, and_right, and_from}
 use Rattle.std.proofs.lemmas.List.{map-append, drop-append-le, drop-drop, length-append, length-drop, length-map}
-use Rattle.std.proofs.lemmas.List.Elements.{All-head, All-nil, All-drop, All-push}
+use Rattle.std.proofs.lemmas.List.Elements.{All-head}
 use Rattle.step_law.specs.declared.entry.Entry.{Entry}
 use Rattle.step_law.specs.declared.entry.Kind.{Kind}
 use Rattle.step_law.specs.declared.entry.Kind.TheVariants.{Take, Send}
@@ -15,16 +15,14 @@ use Rattle.record_law.specs.declared.shape.Shape.{Shape}
 use Rattle.record_law.specs.Entries.{kind_number, is_kind, is_on}
 use Rattle.record_law.specs.History.{one_more, count, put_last, sent_on, message_at, next_on, waiting}
 use Rattle.record_law.specs.Message.{Message as Meant, History}
-use Rattle.record_law.specs.Message.Message.{nothing}
-use Rattle.record_law.specs.Protocol as law
-use Rattle.order_base.specs.declared.message.Message.{Message}
-use Rattle.order_base.specs.declared.message.Message.TheVariants.{Nothing}
+use Rattle.record_terms.specs.declared.message.Message.{Message}
+use Rattle.record_terms.specs.declared.message.Message.TheVariants.{Nothing}
 use Rattle.order_base.specs.Answer.{step_of}
-use Rattle.order_base.specs.Message.{meaning_of}
+use Rattle.record_terms.specs.Message.{meaning_of}
 use Rattle.order_base.specs.There.{IsThere}
 use Rattle.order_base.proofs.Lists.{get_set_same, get_set_other}
 use Rattle.record_order.specs.Waiting.{Waiting, first_of, with_message, without_first}
-use Rattle.record_order.specs.Queues.{IsQueue, AreQueues, AreThere, HaveRoom, first_at, first_in}
+use Rattle.record_order.specs.Queues.{IsQueue, AreQueues, AreThere, HaveRoom}
 
 -- an entry is of one kind
 pub no_take : (e : Entry) → is_kind Send e ≡ true → is_kind Take e ≡ false

@@ -1,5 +1,5 @@
 -- The messages that wait in all rings after a history.
-use Rattle.std.specs.Prelude.{◌≡◌, ℕ, ◌<◌, ◌≤◌, List, [], length, map, drop, true, slice_get, All, Option, Some, None, unwrap_or, option_and_then}
+use Rattle.std.specs.Prelude.{◌≡◌, ℕ, ◌<◌, ◌≤◌, List, [], length, map, drop, true, slice_get, All, Option, Some, None, unwrap_or}
 use Rattle.step_law.specs.declared.entry.Entry.{Entry}
 use Rattle.step_law.specs.declared.entry.Kind.{Kind}
 use Rattle.step_law.specs.declared.entry.Kind.TheVariants as kind
@@ -9,9 +9,9 @@ use Rattle.record_law.specs.declared.shape.Shape.{Shape}
 use Rattle.record_law.specs.Entries.{is_kind}
 use Rattle.record_law.specs.History.{count, sent_on}
 use Rattle.record_law.specs.Message.{History}
-use Rattle.order_base.specs.declared.message.Message.{Message}
-use Rattle.order_base.specs.declared.message.Message.TheVariants.{Nothing}
-use Rattle.order_base.specs.Message.{meaning_of}
+use Rattle.record_terms.specs.declared.message.Message.{Message}
+use Rattle.record_terms.specs.declared.message.Message.TheVariants.{Nothing}
+use Rattle.record_terms.specs.Message.{meaning_of}
 use Rattle.order_base.specs.There.{IsThere}
 use Rattle.record_order.specs.Waiting.{Waiting, first_of}
 

@@ -8,8 +8,8 @@ use Rattle.record_law.specs.Message.{History}
 use Rattle.record_law.specs.Protocol as law
 use Rattle.audio_order.specs.Tracked.{IsAudio, AudioStands}
 use Rattle.control_order.specs.TrackedControl.{IsControl, ControlStands}
-use Rattle.order_base.specs.declared.message.Message.{Message}
-use Rattle.order_base.specs.Message.{meaning_of}
+use Rattle.record_terms.specs.declared.message.Message.{Message}
+use Rattle.record_terms.specs.Message.{meaning_of}
 use Rattle.worker_order.specs.declared.worker_tracker.WorkerTracker.{WorkerTracker}
 use Rattle.worker_order.specs.Locals.{most_counted}
 use Rattle.worker_order.specs.TrackedWorker.{IsWorker, WorkerStands}

@@ -1,6 +1,6 @@
 -- The messages that wait in a ring.
 use Rattle.std.specs.Prelude.{ℕ, List, [], ◌∷◌, ◌++◌, drop, Option, Some, None}
-use Rattle.order_base.specs.declared.message.Message.{Message}
+use Rattle.record_terms.specs.declared.message.Message.{Message}
 
 -- how many there may be, and which wait, the oldest first
 pub record Waiting : Type 0 where

@@ -5,7 +5,7 @@ mod queue;
 mod queues;
 mod tracker;
 
-pub use order_base::Message;
 pub use queue::Queue;
 pub use queues::Queues;
+pub use record_terms::Message;
 pub use tracker::Tracker;

@@ -2,7 +2,7 @@ ghost use Rattle.std.specs.Prelude.{◌≡◌, ◌<◌, [], ◌∷◌, ◌++◌,
 ghost use Rattle.record_order.specs.Waiting.{first_of, with_message, without_first};
 
 use lv_base::NoMemory;
-use order_base::Message;
+use record_terms::Message;
 use std::alloc::Global;
 use std::collections::VecDeque;
 use std::marker::Model;

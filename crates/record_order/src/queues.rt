@@ -6,15 +6,15 @@ ghost use Rattle.record_law.specs.Protocol as law;
 ghost use Rattle.step_law.specs.Ring.{ring_at};
 ghost use Rattle.order_base.specs.Answer.{step_of};
 ghost use Rattle.order_base.specs.Limits.{KeepsLimits};
-ghost use Rattle.order_base.specs.Message.{meaning_of};
+ghost use Rattle.record_terms.specs.Message.{meaning_of};
 ghost use Rattle.order_base.specs.There.{IsThere};
 ghost use Rattle.record_order.specs.Waiting.{Waiting};
 ghost use Rattle.record_order.specs.Queues.{AreQueues, AreThere, HasRoom, FindsMessage, NamesRing, HasQueues, HaveRoom, first_at};
 
 use crate::queue::Queue;
 use lv_base::NoMemory;
-use order_base::{Message, is_kind};
 use record_law::Shape;
+use record_terms::{Message, is_kind};
 use std::alloc::Global;
 use step_law::{Entry, Kind};
 

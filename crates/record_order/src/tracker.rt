@@ -13,8 +13,8 @@ ghost use Rattle.record_order.specs.Tracked.{IsTracker, Stands, Goes, HasWorkers
 use audio_order::AudioTracker;
 use control_order::ControlTracker;
 use lv_base::NoMemory;
-use order_base::Message;
 use record_law::Shape;
+use record_terms::Message;
 use std::alloc::Global;
 use step_law::{Actor, Entry};
 use worker_order::WorkerTracker;

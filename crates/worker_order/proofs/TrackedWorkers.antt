@@ -9,13 +9,13 @@ use Rattle.record_law.specs.Entries.{is_on}
 use Rattle.record_law.specs.Message.{Message as Meant, History}
 use Rattle.record_law.specs.Protocol.{follow, left_after}
 use Rattle.record_law.specs.Worker.{is_close}
-use Rattle.order_base.specs.declared.message.Message.{Message}
+use Rattle.record_terms.specs.declared.message.Message.{Message}
 use Rattle.worker_order.specs.declared.worker_stage.LocalCount.{LocalCount}
 use Rattle.worker_order.specs.declared.worker_stage.WorkerStep.{WorkerStep}
 use Rattle.worker_order.specs.declared.worker_tracker.WorkerTracker.{WorkerTracker}
 use Rattle.worker_order.specs.Backs.{AreBacks}
 use Rattle.worker_order.specs.Locals.{AreLocals, most_counted}
-use Rattle.order_base.specs.Message.{meaning_of}
+use Rattle.record_terms.specs.Message.{meaning_of}
 use Rattle.order_base.specs.Answer.{step_of, follows_as}
 use Rattle.worker_order.specs.TrackedWorker.{WorkerStands, WorkerNext, WorkerGoes}
 use Rattle.worker_order.specs.Worker.{worker_left}

@@ -1,10 +1,10 @@
 -- What an entry of a worker makes of the tasks of a stage.
 use Rattle.std.proofs.Common.{◌≡◌, ℕ, Bool, true, false, Option, sym, ap}
 use Rattle.record_law.specs.declared.shape.Shape.{Shape}
-use Rattle.order_base.specs.declared.message.Message.{Message}
+use Rattle.record_terms.specs.declared.message.Message.{Message}
 use Rattle.worker_order.specs.declared.worker_stage.WorkerStage.{WorkerStage}
 use Rattle.worker_order.specs.declared.worker_stage.WorkerStep.{WorkerStep}
-use Rattle.order_base.specs.Message.{meaning_of}
+use Rattle.record_terms.specs.Message.{meaning_of}
 use Rattle.worker_order.specs.Worker.{worker_left, worker_follows, worker_goes}
 use Rattle.order_base.proofs.Follow.{made}
 

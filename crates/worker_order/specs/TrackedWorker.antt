@@ -6,12 +6,12 @@ use Rattle.record_law.specs.declared.shape.Shape.{Shape}
 use Rattle.record_law.specs.Message.{History}
 use Rattle.record_law.specs.Protocol.{follow, left_after}
 use Rattle.record_law.specs.Worker.{was_closed}
-use Rattle.order_base.specs.declared.message.Message.{Message}
+use Rattle.record_terms.specs.declared.message.Message.{Message}
 use Rattle.worker_order.specs.declared.worker_stage.WorkerStep.{WorkerStep}
 use Rattle.worker_order.specs.declared.worker_tracker.WorkerTracker.{WorkerTracker}
 use Rattle.worker_order.specs.Backs.{AreBacks}
 use Rattle.worker_order.specs.Locals.{AreLocals, most_counted}
-use Rattle.order_base.specs.Message.{meaning_of}
+use Rattle.record_terms.specs.Message.{meaning_of}
 use Rattle.order_base.specs.There.{IsThere}
 use Rattle.order_base.specs.Answer.{follows_as, step_of}
 use Rattle.worker_order.specs.Worker.{worker_left, worker_follows, IsWorkerStage}

@@ -12,7 +12,7 @@ use Rattle.record_law.specs.Shape.{works}
 use Rattle.record_law.specs.Task.{Task}
 use Rattle.record_law.specs.Task.Task.{one, attempts, serving, local_jobs}
 use Rattle.record_law.specs.Worker.{work_on, answering}
-use Rattle.order_base.specs.declared.message.Message.{Message}
+use Rattle.record_terms.specs.declared.message.Message.{Message}
 use Rattle.worker_order.specs.declared.worker_stage.AfterWork.{AfterWork}
 use Rattle.worker_order.specs.declared.worker_stage.AfterWork.TheVariants.{Serve, Restored}
 use Rattle.worker_order.specs.declared.worker_stage.RestoreStage.{RestoreStage}
@@ -22,7 +22,7 @@ use Rattle.worker_order.specs.declared.worker_stage.WorkStage.TheVariants.{Taken
 use Rattle.worker_order.specs.declared.worker_stage.WorkerStage.{WorkerStage}
 use Rattle.worker_order.specs.declared.worker_stage.WorkerStage.TheVariants.{Serving, Working, SaveAsked, Saving, Restoring, Answering, Stopped}
 use Rattle.worker_order.specs.declared.worker_stage.WorkerStep.{WorkerStep}
-use Rattle.order_base.specs.Message.{meaning_of}
+use Rattle.record_terms.specs.Message.{meaning_of}
 use Rattle.order_base.specs.There.{IsThere}
 
 -- of the work on a job

@@ -12,7 +12,7 @@ use Rattle.worker_order.specs.declared.worker_stage.WorkerStep.{WorkerStep}
 use Rattle.worker_order.specs.Backs.{AreBacks}
 use Rattle.order_base.specs.Limits.{KeepsLimits}
 use Rattle.worker_order.specs.Locals.{AreLocals, most_counted}
-use Rattle.order_base.specs.Message.{meaning_of}
+use Rattle.record_terms.specs.Message.{meaning_of}
 use Rattle.order_base.specs.There.{IsThere}
 use Rattle.worker_order.specs.Worker.{worker_left, worker_follows, IsWorkerStage}
 

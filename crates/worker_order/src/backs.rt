@@ -3,10 +3,10 @@ ghost use Rattle.step_law.specs.Actor.{actor_number};
 ghost use Rattle.record_law.specs.Message.{History};
 ghost use Rattle.record_law.specs.Worker as law;
 ghost use Rattle.worker_order.specs.Backs.{AreBacks, holds, back_after};
-ghost use Rattle.order_base.specs.Message.{meaning_of};
+ghost use Rattle.record_terms.specs.Message.{meaning_of};
 
 use lv_base::{Items, NoMemory};
-use order_base::{Message, is_on};
+use record_terms::{Message, is_on};
 use std::alloc::Global;
 use step_law::{Entry, Kind, Ring};
 

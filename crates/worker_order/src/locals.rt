@@ -7,7 +7,7 @@ ghost use Rattle.worker_order.specs.Locals.{AreLocals, has_local, local_inst, mo
 
 use crate::worker_stage::LocalCount;
 use lv_base::{Items, NoMemory};
-use order_base::is_kind;
+use record_terms::is_kind;
 use std::alloc::Global;
 use step_law::{Entry, Kind, Ring};
 

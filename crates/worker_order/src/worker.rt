@@ -4,7 +4,7 @@ ghost use Rattle.record_law.specs.declared.shape.Shape.{Shape};
 ghost use Rattle.record_law.specs.Entries.{same_entry};
 ghost use Rattle.record_law.specs.Task.Task.{serving};
 ghost use Rattle.record_law.specs.Worker.{effect};
-ghost use Rattle.order_base.specs.Message.{meaning_of};
+ghost use Rattle.record_terms.specs.Message.{meaning_of};
 ghost use Rattle.order_base.specs.There.{IsThere};
 ghost use Rattle.worker_order.specs.Worker.{IsWorkerStage, worker_goes, worker_left, after_left};
 ghost use Rattle.worker_order.specs.WorkerView.{AtStage, Serves, ServesFrom, IsView, IsStep};
@@ -15,8 +15,9 @@ use crate::worker_stage::{
     AfterWork, LocalCount, RestoreStage, WorkStage, WorkerStage, WorkerStep,
 };
 use lv_base::Items;
-use order_base::{Message, at_most, is_attempt, is_same, worker_of, works};
+use order_base::{at_most, is_attempt};
 use record_law::Shape;
+use record_terms::{Message, is_same, worker_of, works};
 use step_law::{Actor, Call, Entry, Ring};
 
 /// What a worker judges an entry by: the session, what its own steps say, and what a take brings.

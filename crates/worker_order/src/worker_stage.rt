@@ -1,4 +1,4 @@
-use order_base::Message;
+use record_terms::Message;
 
 /// Where a worker is in the work on a job.
 #[derive(Clone, Copy)]

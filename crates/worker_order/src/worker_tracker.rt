@@ -2,7 +2,7 @@ ghost use Rattle.std.specs.Prelude.{◌≡◌, ◌≤◌, ◌&&◌, ◌||◌, []
 ghost use Rattle.record_law.specs.Entries.{is_on};
 ghost use Rattle.record_law.specs.Worker.{is_close};
 ghost use Rattle.order_base.specs.Limits.{KeepsLimits};
-ghost use Rattle.order_base.specs.Message.{meaning_of};
+ghost use Rattle.record_terms.specs.Message.{meaning_of};
 ghost use Rattle.order_base.specs.There.{IsThere};
 ghost use Rattle.worker_order.specs.TrackedWorker.{IsWorker, IsWorkerStep, WorkerStands, WorkerNext, WorkerGoes};
 
@@ -11,8 +11,8 @@ use crate::locals::{none_sent, note_local};
 use crate::worker::WorkerView;
 use crate::worker_stage::{LocalCount, WorkerStage, WorkerStep};
 use lv_base::{Items, NoMemory};
-use order_base::{Message, is_on};
 use record_law::Shape;
+use record_terms::{Message, is_on};
 use std::alloc::Global;
 use step_law::{Entry, Kind, Ring};
 

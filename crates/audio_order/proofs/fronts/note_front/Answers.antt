@@ -1,7 +1,7 @@
 use Rattle.std.proofs.Common.{◌≤◌, ◌∷◌, length, sym, subst, arith}
 use Rattle.record_law.specs.Message.{Step, History}
 use Rattle.audio_order.specs.Fronts.{AreFronts}
-use Rattle.order_base.specs.Message.{meaning_of}
+use Rattle.record_terms.specs.Message.{meaning_of}
 use Rattle.audio_order.proofs.FrontTables.{noted_inside, noted_outside}
 use Rattle.audio_order.proofs.fronts.note_front.Goals as goal
 

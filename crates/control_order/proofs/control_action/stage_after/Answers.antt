@@ -1,6 +1,6 @@
 use Rattle.std.proofs.Common.{ℕ, ◌∙◌, sym}
 use Rattle.record_law.specs.declared.shape.Shape.{Shape}
-use Rattle.order_base.specs.Message.{meaning_of}
+use Rattle.record_terms.specs.Message.{meaning_of}
 use Rattle.control_order.proofs.ControlTasks.{front_stays}
 use Rattle.control_order.proofs.control_action.stage_after.Goals as goal
 

@@ -1,7 +1,7 @@
 use Rattle.std.proofs.Common.{◌≤◌, ◌∷◌, length, sym, subst, arith}
 use Rattle.record_law.specs.Message.{Step, History}
 use Rattle.worker_order.specs.Backs.{AreBacks}
-use Rattle.order_base.specs.Message.{meaning_of}
+use Rattle.record_terms.specs.Message.{meaning_of}
 use Rattle.worker_order.proofs.BackTables.{noted_inside, noted_outside}
 use Rattle.worker_order.proofs.backs.note_back.Goals as goal
 

@@ -4,9 +4,9 @@ use Rattle.record_law.specs.Entries.{same_entry}
 use Rattle.record_law.specs.Message.{History}
 use Rattle.record_law.specs.Protocol.{follow}
 use Rattle.audio_order.specs.declared.audio_stage.AudioStage.TheVariants.{Looking}
-use Rattle.order_base.specs.declared.message.Message.TheVariants.{Nothing}
+use Rattle.record_terms.specs.declared.message.Message.TheVariants.{Nothing}
 use Rattle.audio_order.specs.Audio.{audio_goes}
-use Rattle.order_base.specs.Message.{meaning_of}
+use Rattle.record_terms.specs.Message.{meaning_of}
 use Rattle.audio_order.proofs.AudioTasks.{blocks_more, wanted}
 use Rattle.audio_order.proofs.audio.AudioView.before.Goals as goal
 

@@ -11,7 +11,7 @@ use Rattle.record_law.specs.Protocol.{follow}
 use Rattle.audio_order.specs.declared.audio_stage.AudioStage.TheVariants.{Within}
 use Rattle.audio_order.specs.declared.audio_stage.RunStage.TheVariants.{Responding}
 use Rattle.audio_order.specs.Audio.{audio_goes, runs_left}
-use Rattle.order_base.specs.Message.{meaning_of}
+use Rattle.record_terms.specs.Message.{meaning_of}
 use Rattle.audio_order.proofs.AudioTasks.{times_more, wanted}
 use Rattle.audio_order.proofs.audio.AudioView.delivering.Goals as goal
 

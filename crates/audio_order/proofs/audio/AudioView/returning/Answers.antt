@@ -7,9 +7,9 @@ use Rattle.step_law.specs.Entry.{send_of, full_of}
 use Rattle.record_law.specs.Entries.{same_entry}
 use Rattle.record_law.specs.Message.{History}
 use Rattle.audio_order.specs.declared.audio_stage.AudioStage.TheVariants.{Returning}
-use Rattle.order_base.specs.declared.message.Message.TheVariants.{Part}
+use Rattle.record_terms.specs.declared.message.Message.TheVariants.{Part}
 use Rattle.audio_order.specs.Fronts.{is_wanted}
-use Rattle.order_base.specs.Message.{meaning_of}
+use Rattle.record_terms.specs.Message.{meaning_of}
 use Rattle.audio_order.proofs.AudioTasks.{send_next, send_none, made_goes}
 use Rattle.audio_order.proofs.audio.AudioView.returning.Goals as goal
 

@@ -5,10 +5,10 @@ use Rattle.step_law.specs.Entry.{done_of}
 use Rattle.record_law.specs.Entries.{same_entry}
 use Rattle.record_law.specs.Message.{History}
 use Rattle.audio_order.specs.declared.audio_stage.AudioStage.TheVariants.{Before}
-use Rattle.order_base.specs.declared.message.Message.TheVariants.{Nothing}
+use Rattle.record_terms.specs.declared.message.Message.TheVariants.{Nothing}
 use Rattle.audio_order.specs.Audio.{audio_goes}
 use Rattle.audio_order.specs.Fronts.{has_front}
-use Rattle.order_base.specs.Message.{meaning_of}
+use Rattle.record_terms.specs.Message.{meaning_of}
 use Rattle.audio_order.proofs.AudioTasks.{run_next, run_none, wanted}
 use Rattle.audio_order.proofs.audio.AudioView.running.Goals as goal
 

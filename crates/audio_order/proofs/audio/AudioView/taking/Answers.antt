@@ -8,7 +8,7 @@ use Rattle.record_law.specs.Protocol.{follow}
 use Rattle.record_law.specs.Task.Task.{take_from}
 use Rattle.audio_order.specs.declared.audio_stage.AudioStage.TheVariants.{Taking}
 use Rattle.audio_order.specs.Audio.{audio_goes, fronts_left}
-use Rattle.order_base.specs.Message.{meaning_of}
+use Rattle.record_terms.specs.Message.{meaning_of}
 use Rattle.audio_order.proofs.AudioTasks.{times_more, wanted}
 use Rattle.audio_order.proofs.audio.AudioView.taking.Goals as goal
 

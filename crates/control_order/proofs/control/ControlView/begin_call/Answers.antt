@@ -4,7 +4,7 @@ use Rattle.step_law.specs.Entry.{begin_of}
 use Rattle.record_law.specs.Entries.{same_entry}
 use Rattle.record_law.specs.Message.{History}
 use Rattle.control_order.specs.declared.control_stage.ControlStage.TheVariants.{Calling}
-use Rattle.order_base.specs.declared.message.Message.TheVariants.{Nothing}
+use Rattle.record_terms.specs.declared.message.Message.TheVariants.{Nothing}
 use Rattle.control_order.specs.Control.{after_round, call_of, control_goes}
 use Rattle.control_order.proofs.ControlActs.{judges_as}
 use Rattle.control_order.proofs.ControlTasks.{calls_more, wanted}

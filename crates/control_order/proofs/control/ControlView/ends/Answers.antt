@@ -6,7 +6,7 @@ use Rattle.record_law.specs.Entries.{same_entry}
 use Rattle.record_law.specs.Message.Message.{nothing}
 use Rattle.control_order.specs.declared.control_stage.ClosingStage.TheVariants.{Telling}
 use Rattle.control_order.specs.declared.control_stage.ControlStage.TheVariants.{Closing}
-use Rattle.order_base.specs.declared.message.Message.TheVariants.{Nothing}
+use Rattle.record_terms.specs.declared.message.Message.TheVariants.{Nothing}
 use Rattle.control_order.specs.Control.{control_goes}
 use Rattle.control_order.proofs.ControlTasks.{ending_is, made_goes}
 use Rattle.order_base.proofs.Follow.{made, only_made}

@@ -9,7 +9,7 @@ use Rattle.record_law.specs.Protocol.{follow}
 use Rattle.record_law.specs.Task.{Task}
 use Rattle.record_law.specs.Task.Task.{leftovers}
 use Rattle.control_order.specs.Control.{finish_left}
-use Rattle.order_base.specs.Message.{meaning_of}
+use Rattle.record_terms.specs.Message.{meaning_of}
 use Rattle.control_order.proofs.ControlTasks.{passed}
 use Rattle.control_order.proofs.control.ControlView.taking.Goals as goal
 

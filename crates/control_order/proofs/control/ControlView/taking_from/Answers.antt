@@ -9,7 +9,7 @@ use Rattle.record_law.specs.Task.Task.{leftovers}
 use Rattle.control_order.specs.declared.control_stage.ClosingStage.TheVariants.{Taking}
 use Rattle.control_order.specs.declared.control_stage.ControlStage.TheVariants.{Closing}
 use Rattle.control_order.specs.Control.{finish_left}
-use Rattle.order_base.specs.Message.{meaning_of}
+use Rattle.record_terms.specs.Message.{meaning_of}
 use Rattle.order_base.proofs.Follow.{made}
 use Rattle.control_order.proofs.ControlTasks.{leaves_rings, takes_ring, made_goes}
 use Rattle.control_order.proofs.control.ControlView.taking_from.Goals as goal

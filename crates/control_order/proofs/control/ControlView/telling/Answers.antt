@@ -13,9 +13,9 @@ use Rattle.record_law.specs.Task.Task.{one, closing}
 use Rattle.record_law.specs.Task.Move.{goes}
 use Rattle.control_order.specs.declared.control_stage.ClosingStage.TheVariants.{Telling}
 use Rattle.control_order.specs.declared.control_stage.ControlStage.TheVariants.{Closing}
-use Rattle.order_base.specs.declared.message.Message.TheVariants.{Close}
+use Rattle.record_terms.specs.declared.message.Message.TheVariants.{Close}
 use Rattle.control_order.specs.Control.{control_goes, taking_left}
-use Rattle.order_base.specs.Message.{meaning_of}
+use Rattle.record_terms.specs.Message.{meaning_of}
 use Rattle.control_order.proofs.ControlActs.{judges_as}
 use Rattle.control_order.proofs.ControlTasks.{wanted}
 use Rattle.control_order.proofs.control.ControlView.telling.Goals as goal

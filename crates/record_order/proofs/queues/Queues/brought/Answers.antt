@@ -1,4 +1,4 @@
-use Rattle.std.proofs.Common.{length, get_or, ap, sym, subst, ◌∙◌, []}
+use Rattle.std.proofs.Common.{get_or, ap, sym, subst, ◌∙◌, []}
 use Rattle.std.proofs.lemmas.Bool.{cond-true}
 use Rattle.std.proofs.lemmas.Option.{slice_get-get_or}
 use Rattle.step_law.specs.declared.entry.Kind.TheVariants.{Take}
@@ -8,7 +8,7 @@ use Rattle.record_law.specs.Entries.{is_kind}
 use Rattle.record_law.specs.History.{next_on}
 use Rattle.record_law.specs.Message.{History}
 use Rattle.record_law.specs.Message.Message.{nothing}
-use Rattle.order_base.specs.Message.{meaning_of}
+use Rattle.record_terms.specs.Message.{meaning_of}
 use Rattle.order_base.specs.There.{IsThere}
 use Rattle.record_order.specs.Queues.{first_in}
 use Rattle.record_order.specs.Waiting.{Waiting}

@@ -9,11 +9,11 @@ use Rattle.record_law.specs.Protocol.{follow}
 use Rattle.record_law.specs.Task.{Task, only_if}
 use Rattle.record_law.specs.Task.Task.{local_jobs}
 use Rattle.record_law.specs.Worker.{work_on}
-use Rattle.order_base.specs.declared.message.Message.TheVariants.{Answer}
+use Rattle.record_terms.specs.declared.message.Message.TheVariants.{Answer}
 use Rattle.worker_order.specs.declared.worker_stage.AfterWork.TheVariants.{Restored}
 use Rattle.worker_order.specs.declared.worker_stage.WorkStage.TheVariants.{Taken}
 use Rattle.worker_order.specs.declared.worker_stage.WorkerStage.TheVariants.{Working}
-use Rattle.order_base.specs.Message.{meaning_of}
+use Rattle.record_terms.specs.Message.{meaning_of}
 use Rattle.worker_order.specs.Worker.{answer_left, worker_goes}
 use Rattle.order_base.proofs.Follow.{not_due, is_due, only_made}
 use Rattle.worker_order.proofs.LocalTables.{has_waiting}
