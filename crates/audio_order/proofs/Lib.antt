@@ -1,0 +1,3 @@
+pub mod FrontTables
+pub mod AudioTasks
+pub mod TrackedAudio

@@ -1,0 +1,8 @@
+use Rattle.std.proofs.Common.{length, ap, ◌∙◌}
+use Rattle.std.specs.Option.{unwrap_or}
+use Rattle.audio_order.specs.Fronts.{is_wanted}
+use Rattle.order_base.proofs.Follow.{or_length}
+use Rattle.audio_order.proofs.fronts.first_wanted.Goals as goal
+
+pub returns-clause-value : goal.returns-clause-value
+returns-clause-value c = c.unwrap_or.ensures ∙ ap (λ o. unwrap_or o (length c.args.fronts.now)) c.wanted_at.ensures ∙ or_length is_wanted c.args.fronts.now

@@ -1,0 +1,4 @@
+pub mod Fronts
+pub mod Audio
+pub mod AudioView
+pub mod Tracked

@@ -1,0 +1,3 @@
+pub mod ControlTasks
+pub mod ControlActs
+pub mod TrackedControls

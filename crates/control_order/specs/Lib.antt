@@ -1,0 +1,4 @@
+pub mod Progress
+pub mod Control
+pub mod ControlView
+pub mod TrackedControl

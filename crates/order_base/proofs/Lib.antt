@@ -1,0 +1,4 @@
+pub mod Lists
+pub mod Follow
+pub mod OwnSteps
+pub mod Sessions

@@ -1,0 +1,5 @@
+//! Tests of the order of work, over what its crates export.
+#![tactic(auto)]
+
+#[cfg(test)]
+mod tests;

@@ -1,0 +1,4 @@
+pub mod BackTables
+pub mod LocalTables
+pub mod WorkerTasks
+pub mod TrackedWorkers
