@@ -1,0 +1,135 @@
+-- What a judge needs of an entry that has a form, and of one that breaks no rule.
+use Rattle.std.proofs.Common.{ltb-true, leb-true, ◌≡◌, ℕ, zero, suc, All, ◌+◌, ◌*◌, ◌<◌, ◌&&◌, Bool, true, false, List, [], ◌∷◌, length, Option, Some, None, refl, sym, ap, subst, ◌∙◌, arith, true≢false}
+use Rattle.std.proofs.lemmas.Option.{none-some, same_Some}
+use Rattle.std.proofs.lemmas.List.Elements.{All-head, All-tail}
+use Rattle.record_law.specs.declared.shape.ShapeAction.{ShapeAction}
+use Rattle.std.specs.Prelude.{slice_get, unwrap_or, is_some, nat_le, nat_lt, not, IfSome}
+use Rattle.std.specs.Option.{option_map}
+use Rattle.step_law.specs.declared.entry.Entry.{Entry}
+use Rattle.step_law.specs.declared.entry.Kind.{Kind}
+use Rattle.step_law.specs.declared.entry.Kind.TheVariants.{Take, Send}
+use Rattle.step_law.specs.Ring.{ring_at}
+use Rattle.record_law.specs.declared.shape.Broken.TheVariants as rule
+use Rattle.record_law.specs.declared.shape.Shape.{Shape}
+use Rattle.record_law.specs.History.{waiting}
+use Rattle.record_law.specs.Message.{History, Message as Meant}
+use Rattle.record_law.specs.Message.Message.{nothing}
+use Rattle.record_law.specs.Protocol.{Follows, about_in, follow_in, done_in}
+use Rattle.record_law.specs.Room.{finds_message, has_room}
+use Rattle.record_law.specs.Rules.{first_broken}
+use Rattle.record_law.specs.There.{has_form}
+use Rattle.record_law.specs.Waits.{may_come}
+use Rattle.record_terms.specs.declared.message.Message.{Message}
+use Rattle.record_terms.specs.declared.message.Message.TheVariants.{Nothing}
+use Rattle.record_terms.specs.Message.{meaning_of}
+use Rattle.record_terms.specs.Session.{IsSession}
+use Rattle.order_base.specs.Limits.{KeepsLimits}
+use Rattle.record_counts.proofs.Forms.{is_on_ring, form_ring_within}
+use Rattle.record_counts.proofs.KeptLaws.{rule_kept, next_kept}
+use Rattle.record_counts.proofs.SessionLaws.{worker_most}
+use Rattle.record_order.specs.Queues.{AreQueues, HaveRoom, NamesRing, HasRoom, FindsMessage}
+use Rattle.record_order.specs.declared.tracker.Tracker.{Tracker}
+use Rattle.record_order.specs.Tracked.{Says, Goes, GoesOn}
+use Rattle.order_base.specs.There.{IsThere}
+use Rattle.order_base.specs.Answer.{step_of}
+use Rattle.record_order.specs.Waiting.{Waiting}
+use Rattle.record_order.proofs.QueueTables.{waiting_is}
+use Rattle.record_rules.specs.Counts.{IsFollowing}
+use Rattle.record_rules.proofs.Finding.{about_is}
+use Rattle.record_legal.proofs.OfKind.{is_take, is_send}
+
+-- ---- rings
+
+pub names_take : (s : Shape) (queues : List Waiting) (e : Entry) → has_form s e ≡ true → length queues ≡ 18 + 3 * length s.insts → NamesRing queues Take e
+names_take s queues e form all is =
+    let on : is_on_ring e.kind ≡ true = ap is_on_ring (is_take e.kind is) in omega (arith, form_ring_within s e form on)
+
+pub names_send : (s : Shape) (queues : List Waiting) (e : Entry) → has_form s e ≡ true → length queues ≡ 18 + 3 * length s.insts → NamesRing queues Send e
+names_send s queues e form all is =
+    let on : is_on_ring e.kind ≡ true = ap is_on_ring (is_send e.kind is) in omega (arith, form_ring_within s e form on)
+
+-- a take that breaks no rule finds a message
+pub finds : (s : Shape) (h : History) (queues : List Waiting) (e : Entry) → first_broken s h e ≡ None → AreQueues queues h → FindsMessage queues e
+finds s h queues e none are is it at =
+    let kept : finds_message h e.kind e.a ≡ true = rule_kept s h e (rule.Syntax ∷ rule.Order ∷ []) (rule.Full ∷ rule.Room ∷ rule.Look ∷ rule.Holder ∷ rule.Class ∷ rule.End ∷ []) rule.Ring refl none in
+    let some : nat_lt 0 (waiting (ring_at e.a) h) ≡ true = subst (λ (kind : Kind). finds_message h kind e.a ≡ true) (is_take e.kind is) kept in
+    omega (arith, ltb-true 0 (waiting (ring_at e.a) h) some, waiting_is (ring_at e.a) it.messages h (are e.a it at))
+
+-- a send that breaks no rule has room
+pub fits : (s : Shape) (h : History) (queues : List Waiting) (e : Entry) → first_broken s h e ≡ None → AreQueues queues h → HaveRoom (s.cells + 2) queues → HasRoom queues e
+fits s h queues e none are have is it at =
+    let kept : has_room s h e.kind e.a ≡ true = rule_kept s h e (rule.Syntax ∷ rule.Order ∷ rule.Ring ∷ rule.Full ∷ []) (rule.Look ∷ rule.Holder ∷ rule.Class ∷ rule.End ∷ []) rule.Room refl none in
+    let most : nat_le (waiting (ring_at e.a) h) (s.cells + 1) ≡ true = subst (λ (kind : Kind). has_room s h kind e.a ≡ true) (is_send e.kind is) kept in
+    omega (arith, leb-true (waiting (ring_at e.a) h) (s.cells + 1) most, have e.a it at, waiting_is (ring_at e.a) it.messages h (are e.a it at))
+
+-- ---- the order of work
+
+-- what a tracker says of an entry
+pub following : (answer : Option Message) (follows : Option Follows) → Says answer follows → option_map meaning_of answer ≡ option_map (λ (it : Follows). it.about) follows
+following None follows says = ap (option_map (λ (it : Follows). it.about)) (sym says)
+following (Some about) None says = absurd (true≢false (sym says.0))
+following (Some about) (Some it) says = ap Some (sym says.1)
+
+both_left : (a b : Bool) → (a && b) ≡ true → a ≡ true
+both_left true b e = refl
+both_left false b e = e
+
+some_about : (follows : Option Message) (it : Option Follows) → option_map meaning_of follows ≡ option_map (λ (f : Follows). f.about) it → is_some it ≡ true
+    → (about : Message) × (follows ≡ Some about)
+some_about (Some about) it e some = (about, refl)
+some_about None None e some = absurd (true≢false (sym some))
+some_about None (Some it) e some = absurd (none-some it.about e)
+
+-- an entry that breaks no rule is about something
+pub has_about : (s : Shape) (h : History) (e : Entry) (follows : Option Message) → first_broken s h e ≡ None → IsFollowing s h e follows
+    → (about : Message) × (follows ≡ Some about)
+has_about s h e follows none is =
+    some_about follows (follow_in s h e) is (both_left (is_some (follow_in s h e)) (may_come s h e) (next_kept s h e none))
+
+-- what it is about
+pub about_meant : (s : Shape) (h : History) (e : Entry) (follows : Option Message) (about : Message) → IsFollowing s h e follows → follows ≡ Some about
+    → meaning_of about ≡ about_in (follow_in s h e)
+about_meant s h e follows about is some =
+    ap (λ (it : Option Message). unwrap_or (option_map meaning_of it) nothing) (sym some) ∙ ap (λ (it : Option Meant). unwrap_or it nothing) is ∙ about_is (follow_in s h e)
+
+-- ---- the session
+
+deed_in : (n : ℕ) (xs : List ShapeAction) (i : ℕ) (it : ShapeAction) → All (λ (x : ShapeAction). x.inst < n) xs → slice_get xs i ≡ Some it → it.inst < n
+deed_in n [] i it all e = absurd (none-some it e)
+deed_in n (x ∷ xs) zero it all e = subst (λ (y : ShapeAction). y.inst < n) (same_Some x it e) (All-head (λ (y : ShapeAction). y.inst < n) x xs all)
+deed_in n (x ∷ xs) (suc i) it all e = deed_in n xs i it (All-tail (λ (y : ShapeAction). y.inst < n) x xs all) e
+
+pub limits_of : (s : Shape) → IsSession s → KeepsLimits s
+limits_of s it = record {
+  insts = it.insts;
+  workers = it.workers;
+  blocks = it.blocks;
+  actions = it.actions;
+  owners = λ inst. omega (arith, worker_most s inst it, it.workers);
+  deeds = λ action one at. deed_in (length s.insts) s.actions action one it.acted at;
+  plan = it.there;
+}
+
+-- ---- what the judge keeps after an entry
+
+pub none_of : {X : Type 0} (it : Option X) (is_none : Bool) → is_some it ≡ not is_none → is_none ≡ true → it ≡ None
+none_of None is_none says none = refl
+none_of (Some x) is_none says none = absurd (true≢false (says ∙ ap not none))
+
+-- a tracker goes on by an entry that is about something
+pub goes_as : (s : Shape) (before after : Tracker) (brought : Message) (e : Entry) (answer : Option Message) (about : Message) → answer ≡ Some about
+    → Goes s before after brought e answer → GoesOn s before after brought e
+goes_as s before after brought e answer about is goes = subst (λ (it : Option Message). IfSome it (λ about. GoesOn s before after brought e)) is goes.stands
+
+-- what an entry is about is there, or nothing
+pub about_there : (s : Shape) (answer : Option Message) (about : Message) → IfSome answer (IsThere s) → about ≡ unwrap_or answer Nothing → IsThere s about
+about_there s None about there is = subst (IsThere s) (sym is) tt
+about_there s (Some it) about there is = subst (IsThere s) (sym is) there
+
+-- and the history goes on by it
+pub noted_as : (s : Shape) (h : History) (e : Entry) (answer : Option Message) (noted about : Message) → IsFollowing s h e answer → answer ≡ Some about
+    → noted ≡ unwrap_or answer Nothing → step_of e noted ∷ h ≡ done_in s h e
+noted_as s h e answer noted about follows is same =
+    let meant : meaning_of noted ≡ about_in (follow_in s h e) =
+    ap meaning_of (same ∙ ap (λ (it : Option Message). unwrap_or it Nothing) is) ∙ about_meant s h e answer about follows is in
+    ap (λ (it : Meant). record { entry = e; about = it } ∷ h) meant
