@@ -1,9 +1,7 @@
 -- What a judge needs of an entry that has a form, and of one that breaks no rule.
-use Rattle.std.proofs.Common.{ltb-true, leb-true, ◌≡◌, ℕ, zero, suc, All, ◌+◌, ◌*◌, ◌<◌, ◌&&◌, Bool, true, false, List, [], ◌∷◌, length, Option, Some, None, refl, sym, ap, subst, ◌∙◌, arith, true≢false}
-use Rattle.std.proofs.lemmas.Option.{none-some, same_Some}
-use Rattle.std.proofs.lemmas.List.Elements.{All-head, All-tail}
-use Rattle.record_law.specs.declared.shape.ShapeAction.{ShapeAction}
-use Rattle.std.specs.Prelude.{slice_get, unwrap_or, is_some, nat_le, nat_lt, not, IfSome}
+use Rattle.std.proofs.Common.{ltb-true, leb-true, ◌≡◌, ◌+◌, ◌*◌, ◌&&◌, Bool, true, false, List, [], ◌∷◌, length, Option, Some, None, refl, sym, ap, subst, ◌∙◌, arith, true≢false}
+use Rattle.std.proofs.lemmas.Option.{none-some}
+use Rattle.std.specs.Prelude.{unwrap_or, is_some, nat_le, nat_lt, not, IfSome}
 use Rattle.std.specs.Option.{option_map}
 use Rattle.step_law.specs.declared.entry.Entry.{Entry}
 use Rattle.step_law.specs.declared.entry.Kind.{Kind}
@@ -22,11 +20,8 @@ use Rattle.record_law.specs.Waits.{may_come}
 use Rattle.record_terms.specs.declared.message.Message.{Message}
 use Rattle.record_terms.specs.declared.message.Message.TheVariants.{Nothing}
 use Rattle.record_terms.specs.Message.{meaning_of}
-use Rattle.record_terms.specs.Session.{IsSession}
-use Rattle.order_base.specs.Limits.{KeepsLimits}
 use Rattle.record_counts.proofs.Forms.{is_on_ring, form_ring_within}
 use Rattle.record_counts.proofs.KeptLaws.{rule_kept, next_kept}
-use Rattle.record_counts.proofs.SessionLaws.{worker_most}
 use Rattle.record_order.specs.Queues.{AreQueues, HaveRoom, NamesRing, HasRoom, FindsMessage}
 use Rattle.record_order.specs.declared.tracker.Tracker.{Tracker}
 use Rattle.record_order.specs.Tracked.{Says, Goes, GoesOn}
@@ -91,24 +86,6 @@ pub about_meant : (s : Shape) (h : History) (e : Entry) (follows : Option Messag
     → meaning_of about ≡ about_in (follow_in s h e)
 about_meant s h e follows about is some =
     ap (λ (it : Option Message). unwrap_or (option_map meaning_of it) nothing) (sym some) ∙ ap (λ (it : Option Meant). unwrap_or it nothing) is ∙ about_is (follow_in s h e)
-
--- ---- the session
-
-deed_in : (n : ℕ) (xs : List ShapeAction) (i : ℕ) (it : ShapeAction) → All (λ (x : ShapeAction). x.inst < n) xs → slice_get xs i ≡ Some it → it.inst < n
-deed_in n [] i it all e = absurd (none-some it e)
-deed_in n (x ∷ xs) zero it all e = subst (λ (y : ShapeAction). y.inst < n) (same_Some x it e) (All-head (λ (y : ShapeAction). y.inst < n) x xs all)
-deed_in n (x ∷ xs) (suc i) it all e = deed_in n xs i it (All-tail (λ (y : ShapeAction). y.inst < n) x xs all) e
-
-pub limits_of : (s : Shape) → IsSession s → KeepsLimits s
-limits_of s it = record {
-  insts = it.insts;
-  workers = it.workers;
-  blocks = it.blocks;
-  actions = it.actions;
-  owners = λ inst. omega (arith, worker_most s inst it, it.workers);
-  deeds = λ action one at. deed_in (length s.insts) s.actions action one it.acted at;
-  plan = it.there;
-}
 
 -- ---- what the judge keeps after an entry
 

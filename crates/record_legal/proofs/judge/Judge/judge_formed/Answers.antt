@@ -4,14 +4,15 @@ use Rattle.record_law.specs.Protocol.{follow_in}
 use Rattle.record_law.specs.Rules.{first_broken}
 use Rattle.record_rules.specs.Counts.{IsFollowing}
 use Rattle.record_order.specs.Queues.{AreQueues}
-use Rattle.record_legal.proofs.Keeping.{names_take, names_send, finds, fits, following, has_about, limits_of, none_of, goes_as, about_there, noted_as}
+use Rattle.order_base.proofs.Sessions.{session_keeps}
+use Rattle.record_legal.proofs.Keeping.{names_take, names_send, finds, fits, following, has_about, none_of, goes_as, about_there, noted_as}
 use Rattle.record_legal.proofs.judge.Judge.judge_formed.Goals as goal
 
 pub brought-brought-requires : goal.brought-brought-requires
 brought-brought-requires c = names_take c.args.shape.now c.args.self.now.queues.queues.items c.args.entry c.requires.form c.requires.judge.count
 
 pub step-follows-requires-clause-limits : goal.step-follows-requires-clause-limits
-step-follows-requires-clause-limits c = limits_of c.args.shape.now c.requires.session
+step-follows-requires-clause-limits c = session_keeps c.args.shape.now c.requires.session
 
 pub note-requires-clause-sends : goal.note-requires-clause-sends
 note-requires-clause-sends c = names_send c.args.shape.now c.args.self.now.queues.queues.items c.args.entry c.requires.form c.requires.judge.count
