@@ -1,5 +1,5 @@
 -- A call of a part is a call of any kind of part.
-use Rattle.std.proofs.Common.{◌≡◌, ℕ, List, [], ◌∷◌, refl, ap, sym, subst}
+use Rattle.std.proofs.Common.{◌≡◌, ℕ, List, [], ◌∷◌, ap, sym, subst}
 use Rattle.interaction.specs.Interaction.{Interaction, done, ask}
 use Rattle.interaction.specs.Attempts.{Attempt, Plays}
 use Rattle.plug_api.specs.declared.ports.Ports.{Ports}

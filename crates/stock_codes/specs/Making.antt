@@ -1,17 +1,21 @@
 -- The instances of stock codes.
-use Rattle.std.specs.Prelude.{ℕ, pos, Bool, true, false, ◌&&◌, List, Option, Some, None, if◌then◌else◌, codes}
+use Rattle.std.specs.Prelude.{◌≡◌, ℕ, pos, ◌==◌, Bool, true, false, not, ◌&&◌, List, length, Option, Some, None, Result, Ok, Err, if◌then◌else◌, codes}
 use Rattle.plugin_decl.specs.declared.declaration.Decl.{Decl}
 use Rattle.plugin_decl.specs.declared.declaration.Port.{Port}
-use Rattle.urid_map.specs.Numbers.{number_of, with_uri}
+use Rattle.urid_map.specs.Numbers.{holds, number_of, with_uri}
+use Rattle.urid_map.specs.declared.urids.TheConstants.{MOST_URIDS}
+use Rattle.plug_api.specs.declared.fault.MakeFault.{MakeFault}
+use Rattle.plug_api.specs.declared.fault.MakeFault.TheVariants.{NoCode, Refused, NoMemory}
 use Rattle.plug_api.specs.Roles.{has_audio, has_control}
 use Rattle.plug_api.specs.Meaning.{Making, made, refused}
 use Rattle.stock_sound.specs.Constant.{has_constant_ports}
 use Rattle.stock_sound.specs.Amplifier.{has_amplifier_ports}
 use Rattle.stock_sound.specs.Mixer.{has_mixer_ports}
 use Rattle.stock_sound.specs.Echo.{has_echo_ports, no_echo}
+use Rattle.stock_tank.specs.Tank.{has_tank_ports}
 use Rattle.stock_codes.specs.Names.{name_of}
 use Rattle.stock_codes.specs.declared.name.StockName.{StockName}
-use Rattle.stock_codes.specs.declared.name.StockName.TheVariants.{Const, Amp, Mix, Echo, Fetch, Burst, Keep}
+use Rattle.stock_codes.specs.declared.name.StockName.TheVariants.{Const, Amp, Mix, Echo, Fetch, Burst, Keep, Tank}
 use Rattle.stock_codes.specs.declared.front.StockFront.{StockFront}
 use Rattle.stock_codes.specs.declared.front.StockFront.TheVariants as front
 use Rattle.stock_codes.specs.declared.back.StockBack.{StockBack}
@@ -36,42 +40,67 @@ has_ports Echo ports = has_echo_ports ports
 has_ports Fetch ports = has_fetch_ports ports
 has_ports Burst ports = has_burst_ports ports
 has_ports Keep ports = has_keep_ports ports
+has_ports Tank ports = has_tank_ports ports
 
--- the property that keep stores
+-- the properties that keep and tank store, by their URIs
 abbrev pub value_uri : List ℕ
 value_uri = codes "urn:lv2fx:value"
 
--- the URIs that have numbers once a new instance was made
-abbrev pub urids_after : StockName → List (List ℕ) → List (List ℕ)
-urids_after Const urids = urids
-urids_after Amp urids = urids
-urids_after Mix urids = urids
-urids_after Echo urids = urids
-urids_after Fetch urids = urids
-urids_after Burst urids = urids
-urids_after Keep urids = with_uri urids value_uri
+abbrev pub level_uri : List ℕ
+level_uri = codes "urn:lv2fx:level"
 
--- the parts of a new instance
-abbrev pub front_of : StockName → StockFront
-front_of Const = front.Constant (record {})
-front_of Amp = front.Amplifier (record {})
-front_of Mix = front.Mixer (record {})
-front_of Echo = front.Echo no_echo
-front_of Fetch = front.Fetch (record { jobs = 0; refused = 0; level = record { 0 = pos 0 } })
-front_of Burst = front.Burst (record { taken = 0; refused = 0; responses = 0 })
-front_of Keep = front.Keep (record { level = record { 0 = pos 0 } })
+-- the property of a code
+abbrev pub property_of : StockName → Option (List ℕ)
+property_of Keep = Some value_uri
+property_of Tank = Some level_uri
+property_of Const = None
+property_of Amp = None
+property_of Mix = None
+property_of Echo = None
+property_of Fetch = None
+property_of Burst = None
 
-abbrev pub back_of : StockName → List (List ℕ) → StockBack
-back_of Const urids = back.Idle (record {})
-back_of Amp urids = back.Idle (record {})
-back_of Mix urids = back.Idle (record {})
-back_of Echo urids = back.Idle (record {})
-back_of Fetch urids = back.Fetch (record {})
-back_of Burst urids = back.Burst (record {})
-back_of Keep urids = back.Keep (record { key = number_of (with_uri urids value_uri) value_uri; level = record { 0 = pos 0 } })
+-- the parts of a new instance, whose property has this number
+abbrev pub front_of : StockName → ℕ → StockFront
+front_of Const key = front.Constant (record {})
+front_of Amp key = front.Amplifier (record {})
+front_of Mix key = front.Mixer (record {})
+front_of Echo key = front.Echo no_echo
+front_of Fetch key = front.Fetch (record { jobs = 0; refused = 0; level = record { 0 = pos 0 } })
+front_of Burst key = front.Burst (record { taken = 0; refused = 0; responses = 0 })
+front_of Keep key = front.Keep (record { level = record { 0 = pos 0 } })
+front_of Tank key = front.Tank (record { key = key; level = record { 0 = pos 0 } })
+
+abbrev pub back_of : StockName → ℕ → StockBack
+back_of Const key = back.Idle (record {})
+back_of Amp key = back.Idle (record {})
+back_of Mix key = back.Idle (record {})
+back_of Echo key = back.Idle (record {})
+back_of Fetch key = back.Fetch (record {})
+back_of Burst key = back.Burst (record {})
+back_of Keep key = back.Keep (record { key = key; level = record { 0 = pos 0 } })
+back_of Tank key = back.Tank (record { key = key; level = record { 0 = pos 0 } })
+
+-- as many URIs as may have numbers have one, and this isn't one of them
+abbrev pub is_full : List (List ℕ) → List ℕ → Bool
+is_full urids uri = length urids == MOST_URIDS && not (holds urids uri)
+
+-- a code with a property makes an instance with its number, or answers the refusal 2 where it gets none
+abbrev pub parts_with : StockName → Option (List ℕ) → List (List ℕ) → Making StockFront StockBack
+parts_with name None urids = made (front_of name 0) (back_of name 0) urids
+parts_with name (Some uri) urids =
+    let key = number_of (with_uri urids uri) uri in
+    if is_full urids uri then refused 2 else made (front_of name key) (back_of name key) (with_uri urids uri)
 
 abbrev pub parts_of : StockName → List (List ℕ) → Making StockFront StockBack
-parts_of name urids = made (front_of name) (back_of name urids) (urids_after name urids)
+parts_of name urids = parts_with name (property_of name) urids
+
+-- the answer to who asks for a number: it is there, there is none left, or there is no memory
+abbrev pub IsMapped : List (List ℕ) → List ℕ → Result ℕ MakeFault → List (List ℕ) → Type 0
+IsMapped urids uri (Ok key) mapped = (is_full urids uri ≡ false) × (key ≡ number_of (with_uri urids uri) uri) × (mapped ≡ with_uri urids uri)
+IsMapped urids uri (Err NoMemory) mapped = Unit {0}
+IsMapped urids uri (Err (Refused number)) mapped = (is_full urids uri ≡ true) × (number ≡ 2)
+IsMapped urids uri (Err NoCode) mapped = ⊥
 
 -- an instance of a code, or the refusal 1 where it doesn't find its ports
 abbrev pub made_of : StockName → List Port → List (List ℕ) → Making StockFront StockBack

@@ -2,7 +2,7 @@
 use Rattle.std.specs.Prelude.{ℕ, List, Option, Some, None, if◌then◌else◌, codes}
 use Rattle.std.specs.Str.{bytes_eq}
 use Rattle.stock_codes.specs.declared.name.StockName.{StockName}
-use Rattle.stock_codes.specs.declared.name.StockName.TheVariants.{Const, Amp, Mix, Echo, Fetch, Burst, Keep}
+use Rattle.stock_codes.specs.declared.name.StockName.TheVariants.{Const, Amp, Mix, Echo, Fetch, Burst, Keep, Tank}
 
 -- the code with this URI, of those that have a worker or a state
 abbrev pub working : List ℕ → Option StockName
@@ -10,6 +10,7 @@ working uri =
     if bytes_eq uri (codes "urn:lv2fx:fetch") then Some Fetch
     else if bytes_eq uri (codes "urn:lv2fx:burst") then Some Burst
     else if bytes_eq uri (codes "urn:lv2fx:keep") then Some Keep
+    else if bytes_eq uri (codes "urn:lv2fx:tank") then Some Tank
     else None
 
 -- the code with this URI

@@ -1,5 +1,4 @@
 -- A part of one kind as a part of any kind.
-use Rattle.std.specs.Prelude.{ℕ}
 use Rattle.interaction.specs.Interaction.{Interaction, done, ask}
 
 -- the same call: it makes the same attempts, and ends with the same beside the part

@@ -3,6 +3,7 @@ use state_store::{Props, Shelf};
 use stock_jobs::{BurstBack, FetchBack};
 use stock_sound::Idle;
 use stock_state::KeepBack;
+use stock_tank::TankBack;
 
 /// A back of a stock code.
 #[derive(Drop)]
@@ -12,6 +13,7 @@ pub enum StockBack {
     Fetch(FetchBack),
     Burst(BurstBack),
     Keep(KeepBack),
+    Tank(TankBack),
 }
 
 impl Back for StockBack {
@@ -25,6 +27,7 @@ impl Back for StockBack {
             StockBack::Fetch(back) => back.work(body, answer),
             StockBack::Burst(back) => back.work(body, answer),
             StockBack::Keep(back) => back.work(body, answer),
+            StockBack::Tank(back) => back.work(body, answer),
         }
     }
 
@@ -34,6 +37,7 @@ impl Back for StockBack {
             StockBack::Fetch(back) => back.save(shelf),
             StockBack::Burst(back) => back.save(shelf),
             StockBack::Keep(back) => back.save(shelf),
+            StockBack::Tank(back) => back.save(shelf),
         }
     }
 
@@ -43,6 +47,7 @@ impl Back for StockBack {
             StockBack::Fetch(back) => back.restore_safe(from, sched),
             StockBack::Burst(back) => back.restore_safe(from, sched),
             StockBack::Keep(back) => back.restore_safe(from, sched),
+            StockBack::Tank(back) => back.restore_safe(from, sched),
         }
     }
 }

@@ -145,6 +145,38 @@ const KEEP: &str = "@prefix doap: <http://usefulinc.com/ns/doap#> .
   ] .
 ";
 
+const TANK: &str = "@prefix atom: <http://lv2plug.in/ns/ext/atom#> .
+@prefix doap: <http://usefulinc.com/ns/doap#> .
+@prefix lv2: <http://lv2plug.in/ns/lv2core#> .
+@prefix patch: <http://lv2plug.in/ns/ext/patch#> .
+@prefix state: <http://lv2plug.in/ns/ext/state#> .
+@prefix urid: <http://lv2plug.in/ns/ext/urid#> .
+@prefix work: <http://lv2plug.in/ns/ext/worker#> .
+
+<urn:lv2fx:tank>
+  a lv2:Plugin ;
+  doap:name \"Tank\" ;
+  lv2:requiredFeature urid:map ;
+  lv2:optionalFeature lv2:hardRTCapable , work:schedule , state:threadSafeRestore ;
+  lv2:extensionData work:interface , state:interface ;
+  patch:readable <urn:lv2fx:level> ;
+  patch:writable <urn:lv2fx:level> ;
+  lv2:port [
+    a lv2:InputPort , atom:AtomPort ;
+    atom:bufferType atom:Sequence ; atom:supports patch:Message ;
+    lv2:designation lv2:control ;
+    lv2:index 0 ; lv2:symbol \"control\" ; lv2:name \"Control\"
+  ] , [
+    a lv2:OutputPort , atom:AtomPort ;
+    atom:bufferType atom:Sequence ; atom:supports patch:Message ;
+    lv2:designation lv2:control ;
+    lv2:index 1 ; lv2:symbol \"notify\" ; lv2:name \"Notify\"
+  ] , [
+    a lv2:OutputPort , lv2:AudioPort ;
+    lv2:index 2 ; lv2:symbol \"out\" ; lv2:name \"Out\"
+  ] .
+";
+
 /// The declaration that comes with a code: a Turtle document.
 pub(crate) fn document_of(name: StockName) -> &'static str
     ensures { result.now ≡ documents.document_of name }
@@ -157,5 +189,6 @@ pub(crate) fn document_of(name: StockName) -> &'static str
         StockName::Fetch => FETCH,
         StockName::Burst => BURST,
         StockName::Keep => KEEP,
+        StockName::Tank => TANK,
     }
 }

@@ -2,6 +2,7 @@ use plug_api::{Front, Ports, Sched};
 use stock_jobs::{BurstFront, FetchFront};
 use stock_sound::{Amplifier, Constant, Echo, Mixer};
 use stock_state::KeepFront;
+use stock_tank::TankFront;
 
 /// A front of a stock code.
 #[derive(Drop)]
@@ -13,6 +14,7 @@ pub enum StockFront {
     Fetch(FetchFront),
     Burst(BurstFront),
     Keep(KeepFront),
+    Tank(TankFront),
 }
 
 impl Front for StockFront {
@@ -29,6 +31,7 @@ impl Front for StockFront {
             StockFront::Fetch(front) => front.activate(),
             StockFront::Burst(front) => front.activate(),
             StockFront::Keep(front) => front.activate(),
+            StockFront::Tank(front) => front.activate(),
         }
     }
 
@@ -41,6 +44,7 @@ impl Front for StockFront {
             StockFront::Fetch(front) => front.deactivate(),
             StockFront::Burst(front) => front.deactivate(),
             StockFront::Keep(front) => front.deactivate(),
+            StockFront::Tank(front) => front.deactivate(),
         }
     }
 
@@ -53,6 +57,7 @@ impl Front for StockFront {
             StockFront::Fetch(front) => front.run(ports, sched),
             StockFront::Burst(front) => front.run(ports, sched),
             StockFront::Keep(front) => front.run(ports, sched),
+            StockFront::Tank(front) => front.run(ports, sched),
         }
     }
 
@@ -65,6 +70,7 @@ impl Front for StockFront {
             StockFront::Fetch(front) => front.work_response(body),
             StockFront::Burst(front) => front.work_response(body),
             StockFront::Keep(front) => front.work_response(body),
+            StockFront::Tank(front) => front.work_response(body),
         }
     }
 
@@ -77,6 +83,7 @@ impl Front for StockFront {
             StockFront::Fetch(front) => front.end_run(),
             StockFront::Burst(front) => front.end_run(),
             StockFront::Keep(front) => front.end_run(),
+            StockFront::Tank(front) => front.end_run(),
         }
     }
 }

@@ -1,19 +1,23 @@
-ghost use Rattle.std.specs.Prelude.{◌≡◌, ◌++◌, List, ℕ, IsTrue, IfOk, OnOk};
+ghost use Rattle.std.specs.Prelude.{◌≡◌, ◌++◌, List, ℕ, IsTrue, IfOk};
 ghost use Rattle.iri_resolve.specs.Iri.{is_iri_text};
-ghost use Rattle.urid_map.specs.Numbers.{number_of, with_uri};
 ghost use Rattle.plug_api.specs.Meaning.{IsMade};
-ghost use Rattle.stock_codes.specs.declared.name.StockName.TheVariants.{Keep};
+ghost use Rattle.stock_codes.specs.declared.name.StockName.TheVariants.{Keep, Tank};
+ghost use Rattle.stock_codes.specs.Making.{IsMapped};
 ghost use Rattle.stock_codes.specs.Making as making;
 
 use crate::{StockBack, StockFront, StockName};
-use lv_base::{NoMemory, Text};
-use plug_api::{MakeFault, has_audio, has_control};
+use lv_base::Text;
+use plug_api::{MakeFault, has_atom, has_audio, has_control};
 use plugin_decl::Port;
 use std::alloc::Global;
 use stock_jobs::{BurstBack, BurstFront, FetchBack, FetchFront};
 use stock_sound::{Amplifier, Constant, Echo, Idle, Mixer};
 use stock_state::{KeepBack, KeepFront};
-use urid_map::Urids;
+use stock_tank::{TankBack, TankFront};
+use urid_map::{UridFault, Urids};
+
+/// The number of a refusal: there are no more numbers for the URI of a property.
+const NO_NUMBER: u32 = 2;
 
 /// Whether a code finds each of its ports among the declared ones.
 pub(crate) fn has_ports(name: StockName, ports: &[Port]) -> bool
@@ -33,6 +37,9 @@ pub(crate) fn has_ports(name: StockName, ports: &[Port]) -> bool
         StockName::Fetch => has_audio(false, ports, 0) && has_control(false, ports, 1),
         StockName::Burst => has_burst_ports(ports),
         StockName::Keep => has_audio(false, ports, 0) && has_control(true, ports, 1),
+        StockName::Tank => {
+            has_atom(true, ports, 0) && has_atom(false, ports, 1) && has_audio(false, ports, 2)
+        }
     }
 }
 
@@ -51,7 +58,7 @@ pub(crate) fn parts_of(
     urids: &mut Urids,
 ) -> Result<(StockFront, StockBack), MakeFault>
     ensures made { IsMade (making.parts_of name urids.old) result urids.new }
-    ensures fits { IfOk result (λ parts. parts.0 ≡ making.front_of name) }
+    ensures fits { IfOk result (λ parts. (key : ℕ) × (parts.0 ≡ making.front_of name key)) }
     ensures urids { (more : List (List ℕ)) × (urids.new ≡ urids.old ++ more) }
 {
     match name {
@@ -68,13 +75,14 @@ pub(crate) fn parts_of(
             StockBack::Burst(BurstBack),
         )),
         StockName::Keep => keep(alloc, urids),
+        StockName::Tank => tank(alloc, urids),
     }
 }
 
 #[tactic(auto, unfolding(turtle_grammar::specs::Characters::is_excluded))]
 fn keep(alloc: Global, urids: &mut Urids) -> Result<(StockFront, StockBack), MakeFault>
     ensures made { IsMade (making.parts_of Keep urids.old) result urids.new }
-    ensures fits { IfOk result (λ parts. parts.0 ≡ making.front_of Keep) }
+    ensures fits { IfOk result (λ parts. (key : ℕ) × (parts.0 ≡ making.front_of Keep key)) }
     ensures urids { (more : List (List ℕ)) × (urids.new ≡ urids.old ++ more) }
 {
     let key = mapped(alloc, "urn:lv2fx:value", urids)?;
@@ -84,16 +92,29 @@ fn keep(alloc: Global, urids: &mut Urids) -> Result<(StockFront, StockBack), Mak
     ))
 }
 
-// The number of a URI. Where there is none left, there is no memory.
-fn mapped(alloc: Global, uri: &str, urids: &mut Urids) -> Result<u32, NoMemory>
+#[tactic(auto, unfolding(turtle_grammar::specs::Characters::is_excluded))]
+fn tank(alloc: Global, urids: &mut Urids) -> Result<(StockFront, StockBack), MakeFault>
+    ensures made { IsMade (making.parts_of Tank urids.old) result urids.new }
+    ensures fits { IfOk result (λ parts. (key : ℕ) × (parts.0 ≡ making.front_of Tank key)) }
+    ensures urids { (more : List (List ℕ)) × (urids.new ≡ urids.old ++ more) }
+{
+    let key = mapped(alloc, "urn:lv2fx:level", urids)?;
+    Ok((
+        StockFront::Tank(TankFront::with_key(key)),
+        StockBack::Tank(TankBack::with_key(key)),
+    ))
+}
+
+// The number of a URI.
+fn mapped(alloc: Global, uri: &str, urids: &mut Urids) -> Result<u32, MakeFault>
     requires { IsTrue (is_iri_text uri.now) }
-    ensures number { IfOk result (λ number. number ≡ number_of (with_uri urids.old uri.now) uri.now) }
-    ensures urids { OnOk result (urids.new ≡ with_uri urids.old uri.now) }
+    ensures number { IsMapped urids.old uri.now result urids.new }
     ensures more { (more : List (List ℕ)) × (urids.new ≡ urids.old ++ more) }
 {
     let uri = Text::from_str(alloc, uri)?;
     match urids.map(&uri) {
         Ok(number) => Ok(number),
-        Err(_) => Err(NoMemory),
+        Err(UridFault::Full) => Err(MakeFault::Refused(NO_NUMBER)),
+        Err(UridFault::NoMemory) => Err(MakeFault::NoMemory),
     }
 }

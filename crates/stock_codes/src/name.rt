@@ -11,6 +11,7 @@ pub enum StockName {
     Fetch,
     Burst,
     Keep,
+    Tank,
 }
 
 impl StockName {
@@ -36,6 +37,7 @@ fn working(uri: &str) -> Option<StockName>
         "urn:lv2fx:fetch" => Some(StockName::Fetch),
         "urn:lv2fx:burst" => Some(StockName::Burst),
         "urn:lv2fx:keep" => Some(StockName::Keep),
+        "urn:lv2fx:tank" => Some(StockName::Tank),
         _ => None,
     }
 }

@@ -11,6 +11,7 @@ use plugin_decl::{Decl, Options};
 use state_store::Props;
 use std::alloc::Global;
 use stock_state::restore_keep;
+use stock_tank::restore_tank;
 use urid_map::Urids;
 
 /// The number of a refusal: a port of the code isn't declared with its index, direction and kind.
@@ -19,7 +20,7 @@ const NO_PORT: u32 = 1;
 /// The status of a call of which a code knows nothing.
 const UNKNOWN: u8 = 1;
 
-/// The stock codes: `urn:lv2fx:const`, `amp`, `mix`, `echo`, `fetch`, `burst` and `keep`.
+/// The stock codes: `urn:lv2fx:const`, `amp`, `mix`, `echo`, `fetch`, `burst`, `keep` and `tank`.
 #[derive(Clone, Copy, Debug)]
 pub struct Stock;
 
@@ -55,6 +56,10 @@ impl Codes for Stock {
         match front {
             StockFront::Keep(front) => match back {
                 StockBack::Keep(back) => restore_keep(front, back, from),
+                _ => UNKNOWN,
+            },
+            StockFront::Tank(front) => match back {
+                StockBack::Tank(back) => restore_tank(front, back, from),
                 _ => UNKNOWN,
             },
             _ => UNKNOWN,

@@ -1,4 +1,2 @@
 pub mod Levels
-pub mod Jobs
 pub mod Keep
-pub mod Tank

@@ -11,7 +11,7 @@ const FIXED: u32 = 14;
 const PLAIN: u32 = 3;
 
 /// The status of a call that does nothing.
-pub(crate) const UNKNOWN: u8 = 1;
+pub const UNKNOWN: u8 = 1;
 
 /// What is heard of a level with another one added.
 pub(crate) fn heard(level: Fixed, more: Fixed) -> Sample
@@ -21,14 +21,14 @@ pub(crate) fn heard(level: Fixed, more: Fixed) -> Sample
 }
 
 /// The level that eight bytes tell.
-pub(crate) fn level_in(body: [u8; 8]) -> Fixed
+pub fn level_in(body: [u8; 8]) -> Fixed
     ensures { result ≡ level_in body }
 {
     Fixed(i64::from_le_bytes(body))
 }
 
 /// Stores a level on an empty shelf, under its key.
-pub(crate) fn save(level: Fixed, key: u32, shelf: &mut Shelf) -> u8
+pub fn save(level: Fixed, key: u32, shelf: &mut Shelf) -> u8
     requires { shelf.old.rows ≡ [] }
     ensures status { result ≡ (saved key level shelf.old.mapped).0 }
     ensures shelf { shelf.new ≡ record shelf.old { rows = (saved key level shelf.old.mapped).1 } }
@@ -37,7 +37,7 @@ pub(crate) fn save(level: Fixed, key: u32, shelf: &mut Shelf) -> u8
 }
 
 /// The body of the level that is stored under a key, or the status of that it isn't there.
-pub(crate) fn stored(from: &Props, key: u32) -> Result<[u8; 8], u8>
+pub fn stored(from: &Props, key: u32) -> Result<[u8; 8], u8>
     ensures { result ≡ stored from.now key }
 {
     match from.retrieve(key) {

@@ -1,11 +1,9 @@
-//! The stock codes with states: keep, which adds a value to its level, and tank, whose level patch messages set and ask for.
+//! The level that the stock codes with states keep, and keep itself, which adds a value to it.
 #![tactic(auto)]
 
 mod fill;
-mod job;
 mod keep;
 mod level;
-mod tank;
 
 pub use keep::{KeepBack, KeepFront, restore_keep};
-pub use tank::{TankBack, TankFront, restore_tank};
+pub use level::{UNKNOWN, level_in, save, stored};

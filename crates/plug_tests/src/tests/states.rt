@@ -10,7 +10,8 @@ use std::alloc::Global;
 use std::process::Abort;
 use std::test::Fail;
 use step_record::{Count, Log, Parcel};
-use stock_state::{KeepBack, KeepFront, TankBack, TankFront, restore_keep, restore_tank};
+use stock_state::{KeepBack, KeepFront, restore_keep};
+use stock_tank::{TankBack, TankFront, restore_tank};
 use worker_ring::ListSched;
 
 /// The number of the level's key, and how many URIs have numbers.

@@ -1,5 +1,5 @@
 ghost use Rattle.std.specs.Prelude.{◌≡◌};
-ghost use Rattle.stock_state.specs.Jobs.{job_of, restored_by, restore_of, restoring};
+ghost use Rattle.stock_tank.specs.Jobs.{job_of, restored_by, restore_of, restoring};
 
 /// What the back of tank is asked for. A level is the body of a Fixed.
 #[derive(Clone, Copy)]

@@ -1,37 +1,17 @@
 ghost use Rattle.std.specs.Prelude.{◌≡◌, pos};
-ghost use Rattle.stock_state.specs.Tank.{tank_restore};
 
 use crate::job::{Job, job_of, restoring};
-use crate::level::{UNKNOWN, level_in, save, stored};
 use lv_base::Fixed;
 use plug_api::{Back, Respond, Sched};
 use state_store::{Props, SUCCESS, Shelf};
-
-/// The sound is its level, which patch messages set and ask for.
-#[derive(Drop)]
-pub struct TankFront {
-    /// The number of the level's key.
-    key: u32,
-    level: Fixed,
-}
+use stock_state::{UNKNOWN, level_in, save, stored};
 
 /// Stores the level.
 #[derive(Drop)]
 pub struct TankBack {
-    key: u32,
-    level: Fixed,
-}
-
-impl TankFront {
-    /// The level is 0, and its key has this number.
-    pub fn with_key(key: u32) -> Self
-        ensures { result ≡ record { key = key; level = record { 0 = pos 0 } } }
-    {
-        TankFront {
-            key,
-            level: Fixed(0),
-        }
-    }
+    /// The number of the level's key.
+    pub(crate) key: u32,
+    pub(crate) level: Fixed,
 }
 
 impl TankBack {
@@ -47,7 +27,7 @@ impl TankBack {
 }
 
 impl Back for TankBack {
-    ghost use Rattle.stock_state.specs.Tank.{tank_back};
+    ghost use Rattle.stock_tank.specs.Tank.{tank_back};
 
     ghost meaning = { tank_back };
 
@@ -74,20 +54,5 @@ impl Back for TankBack {
             Ok(level) => sched.schedule_work(&restoring(level)),
             Err(status) => status,
         }
-    }
-}
-
-/// Gives both parts of tank the stored level. The answer is an `LV2_State_Status`: `NO_PROPERTY` where no level is stored, `BAD_TYPE`
-/// where it isn't a Fixed; both change nothing.
-pub fn restore_tank(front: &mut TankFront, back: &mut TankBack, from: &Props) -> u8
-    ensures { (front.new, back.new, result) ≡ tank_restore front.old back.old from.now }
-{
-    match stored(from, back.key) {
-        Ok(body) => {
-            front.level = level_in(body);
-            back.level = front.level;
-            SUCCESS
-        }
-        Err(status) => status,
     }
 }

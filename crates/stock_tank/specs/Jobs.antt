@@ -1,7 +1,7 @@
 -- The jobs of tank (LV2 worker).
 use Rattle.std.specs.Prelude.{ℕ, ◌==◌, if◌then◌else◌, List, [], ◌∷◌, length}
-use Rattle.stock_state.specs.declared.job.Job.{Job}
-use Rattle.stock_state.specs.declared.job.Job.TheVariants.{Set, Restore, Other}
+use Rattle.stock_tank.specs.declared.job.Job.{Job}
+use Rattle.stock_tank.specs.declared.job.Job.TheVariants.{Set, Restore, Other}
 
 -- a level in eight bytes restores it
 abbrev pub restore_of : List ℕ → Job

@@ -1,0 +1,9 @@
+pub mod Answering
+pub mod Asking
+pub mod Requesting
+pub mod Outputs
+pub mod Turns
+pub mod Ends
+pub mod Spelled
+pub mod Given
+pub mod Ran

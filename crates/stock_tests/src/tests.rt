@@ -1,0 +1,4 @@
+mod bench;
+mod declared;
+mod played;
+mod refused;
