@@ -1,0 +1,31 @@
+ghost use Rattle.block_signals.specs.Laws.{BoardGivesInputs, BoardBeginsBlank, BlockBegins, RunEnds, ActionIsTaken, NothingElseCounts};
+
+/// What is known at a moment says what each run is given.
+pub fn board_gives_inputs<F, B>()
+    ensures { BoardGivesInputs F B }
+{}
+
+/// Before audio's first moment nothing is known.
+pub fn board_begins_blank<F, B>()
+    ensures { BoardBeginsBlank F B }
+{}
+
+/// Where a block begins, what was given in this block was given in the one before.
+pub fn block_begins<F, B>()
+    ensures { BlockBegins F B }
+{}
+
+/// A run that ends gives its outputs, and nothing else.
+pub fn run_ends<F, B>()
+    ensures { RunEnds F B }
+{}
+
+/// An action that audio takes sets a value, or brings a message.
+pub fn action_is_taken<F, B>()
+    ensures { ActionIsTaken F B }
+{}
+
+/// No other moment of audio changes what is known.
+pub fn nothing_else_counts<F, B>()
+    ensures { NothingElseCounts F B }
+{}

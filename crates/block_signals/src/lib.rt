@@ -1,0 +1,9 @@
+//! The signals of a block as a host keeps them: what outputs gave in this block and in the one before, and what each run is given of it.
+#![tactic(auto)]
+
+mod laws;
+
+pub use laws::{
+    action_is_taken, block_begins, board_begins_blank, board_gives_inputs, nothing_else_counts,
+    run_ends,
+};
