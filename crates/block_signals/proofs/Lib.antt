@@ -1,1 +1,4 @@
 pub mod Boards
+pub mod Outs
+pub mod Places
+pub mod Shown

@@ -1,3 +1,6 @@
 pub mod Board
 pub mod Given
 pub mod Laws
+pub mod Lending
+pub mod Outlets
+pub mod Places

@@ -2,8 +2,12 @@
 #![tactic(auto)]
 
 mod laws;
+mod outlet;
+mod outlets;
 
 pub use laws::{
     action_is_taken, block_begins, board_begins_blank, board_gives_inputs, nothing_else_counts,
     run_ends,
 };
+pub use outlet::Outlet;
+pub use outlets::Outlets;
