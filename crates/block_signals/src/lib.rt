@@ -2,8 +2,10 @@
 #![tactic(auto)]
 
 mod laws;
+mod mixing;
 mod outlet;
 mod outlets;
+mod source;
 
 pub use laws::{
     action_is_taken, block_begins, board_begins_blank, board_gives_inputs, nothing_else_counts,

@@ -108,7 +108,7 @@ pub(crate) fn places_of(alloc: Global, ports: &[Port]) -> Result<Vec<u32>, NoMem
     Ok(of)
 }
 
-fn place_in(ports: &[Port], port: &Port) -> u32
+pub(crate) fn place_in(ports: &[Port], port: &Port) -> u32
     requires few { length ports.now ≤ 256 }
     requires within { port.now.index ≤ length ports.now }
     ensures { result ≡ places.place_in ports.now port.now }
@@ -121,7 +121,7 @@ fn place_in(ports: &[Port], port: &Port) -> u32
 }
 
 /// Whether the kinds stand in one list.
-fn stands_beside(kind: PortKind, other: PortKind) -> bool
+pub(crate) fn stands_beside(kind: PortKind, other: PortKind) -> bool
     ensures { result ≡ places.beside kind other }
 {
     match kind {

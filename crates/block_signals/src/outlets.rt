@@ -5,10 +5,12 @@ ghost use Rattle.graph_order.specs.declared.setup.Setup.{Setup};
 ghost use Rattle.block_signals.specs.Board.{Board, blank, block_begun};
 ghost use Rattle.block_signals.specs.Outlets.{ShowsOutputs};
 ghost use Rattle.block_signals.specs.Lending.{LendsNow, now_at};
+ghost use Rattle.block_signals.specs.Mixing.{outs_at, heard};
 
 use crate::outlet::Outlet;
+use crate::source::Source;
 use graph_order::Setup;
-use lv_base::NoMemory;
+use lv_base::{NoMemory, Sample};
 use plug_api::Outs;
 use std::alloc::Global;
 
@@ -49,5 +51,27 @@ impl Outlets {
     {
         let outlet = &mut self.each[inst as usize];
         &mut outlet.now
+    }
+
+    /// What is heard at a source.
+    pub(crate) fn heard(&self, source: Source) -> &[Sample]
+        requires inst { source.inst < length self.now.each.items }
+        requires place { source.place < length (outs_at self.now source).blocks }
+        ensures { result.now ≡ heard self.now source }
+    {
+        self.outs_at(source).block(source.place)
+    }
+
+    /// The outputs that a source is among.
+    fn outs_at(&self, source: Source) -> &Outs
+        requires { source.inst < length self.now.each.items }
+        ensures { result.now ≡ outs_at self.now source }
+    {
+        let outlet = &self.each[source.inst as usize];
+        if source.delayed {
+            &outlet.before
+        } else {
+            &outlet.now
+        }
     }
 }
