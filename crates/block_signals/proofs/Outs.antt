@@ -1,5 +1,5 @@
 -- The outputs of an instance, before a run and after it.
-use Rattle.std.proofs.Common.{◌≡◌, ℕ, zero, suc, ◌<◌, ◌≤◌, Bool, true, false, not, ◌&&◌, nat_le, if◌then◌else◌, List, [], ◌∷◌, length, get_or, set, map, replicate, Option, unwrap_or, refl, sym, ap, ◌∙◌, ◌⊎◌, inl, inr, arith, All}
+use Rattle.std.proofs.Common.{◌≡◌, ℕ, zero, suc, ◌<◌, ◌≤◌, Bool, true, false, nat_le, if◌then◌else◌, List, [], ◌∷◌, length, get_or, set, map, replicate, Option, unwrap_or, refl, sym, ap, ◌∙◌, ◌⊎◌, inl, inr, arith, All}
 use Rattle.std.proofs.lemmas.Bool.{false≢true, le-leb, cases_lt}
 use Rattle.std.proofs.lemmas.List.{length-set, length-map, length-replicate, map-set, set-get_or, set_past, get_or-map, get_or-replicate}
 use Rattle.std.proofs.lemmas.List.Elements.{All-nil, All-cons, All-head, All-tail}
@@ -18,6 +18,7 @@ use Rattle.plug_api.specs.Sound.{silent, silence, hushed}
 use Rattle.std.specs.Prelude.{slice_index}
 use Rattle.block_signals.specs.declared.outlet.Outlet.{Outlet}
 use Rattle.block_signals.specs.Places.{is_output_of, outputs_among, places_of, quiet_outs, outs_after}
+use Rattle.block_signals.proofs.Places.{own_kind}
 
 -- an instance's outputs once a block began
 abbrev pub begun_outlet : Outlet → Outlet
@@ -39,7 +40,7 @@ abbrev pub AreFormed : ℕ → List Port → Left → Type 0
 AreFormed frames ports outs = silenced outs ≡ quiet_outs frames ports
 
 -- a block among them has so many frames
-block_formed : (frames : ℕ) (ports : List Port) (outs : Left) (place : ℕ) → AreFormed frames ports outs → place < length outs.blocks
+pub block_formed : (frames : ℕ) (ports : List Port) (outs : Left) (place : ℕ) → AreFormed frames ports outs → place < length outs.blocks
     → hushed (block_at outs.blocks place) ≡ silence frames
 block_formed frames ports outs place formed h =
     let n = length (outputs_among is_sound ports) in
@@ -108,10 +109,6 @@ kind_space Cv room h fits = absurd (false≢true h)
 kind_space Control room h fits = absurd (false≢true h)
 kind_space Unsupported room h fits = absurd (false≢true h)
 
-of_kind : (side own : Bool) → (not side && own) ≡ true → own ≡ true
-of_kind false own h = h
-of_kind true own h = absurd (false≢true h)
-
 pub space_among : (ports : List Port) → All HasRoom ports → All HasSpace (outputs_among is_atom ports)
 space_among [] rooms = All-nil HasSpace
 space_among (port ∷ ports) rooms = by (is_output_of is_atom port) refl (space_among ports (All-tail HasRoom port ports rooms))
@@ -119,7 +116,7 @@ space_among (port ∷ ports) rooms = by (is_output_of is_atom port) refl (space_
     by : (b : Bool) → is_output_of is_atom port ≡ b → All HasSpace (outputs_among is_atom ports) → All HasSpace (outputs_among is_atom (port ∷ ports))
     by true e rest =
         rw e (All-cons HasSpace port (outputs_among is_atom ports)
-        (kind_space port.kind port.room (of_kind port.input (is_atom port.kind) e) (All-head HasRoom port ports rooms)) rest)
+        (kind_space port.kind port.room (own_kind port.input (is_atom port.kind) e) (All-head HasRoom port ports rooms)) rest)
     by false e rest = rw e rest
 
 pub quiet_formed : (frames : ℕ) (ports : List Port) → All HasRoom ports → AreFormed frames ports (quiet_outs frames ports)
@@ -146,8 +143,8 @@ fresh_quiet frames ports rooms =
       forges = begun_first (outputs_among is_atom ports) (space_among ports rooms) t;
     }
 
--- outputs that were quiet before a run are quiet again once they are silenced
-pub silenced_after : (frames : ℕ) (ports : List Port) (given : Option Outputs) → All HasRoom ports → AreOutputs ports frames (unwrap_or given [])
-    → silenced (outs_after frames ports given) ≡ quiet_outs frames ports
-silenced_after frames ports given rooms fit =
+-- outputs that were quiet before a run keep their form
+pub formed_after : (frames : ℕ) (ports : List Port) (given : Option Outputs) → All HasRoom ports → AreOutputs ports frames (unwrap_or given [])
+    → AreFormed frames ports (outs_after frames ports given)
+formed_after frames ports given rooms fit =
     formed_all frames ports (places_of ports) (quiet_outs frames ports) (unwrap_or given []) (quiet_formed frames ports rooms) fit

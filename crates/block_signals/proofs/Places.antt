@@ -9,6 +9,9 @@ use Rattle.plugin_decl.specs.declared.declaration.Port.{Port}
 use Rattle.plugin_decl.specs.declared.declaration.PortKind.{PortKind}
 use Rattle.plugin_decl.specs.declared.declaration.PortKind.TheVariants.{Audio, Cv, Control, Atom, Unsupported}
 use Rattle.plug_api.specs.Roles.{is_sound, is_control, is_atom, port_is, has, AreNumbered}
+use Rattle.plug_api.specs.Signal.{sound}
+use Rattle.plug_api.specs.Sound.{silence}
+use Rattle.session_play.specs.Signals.{quiet}
 use Rattle.block_signals.specs.Places.{beside, is_output_of, outputs_among, place_in, places_of}
 
 -- ---- how many of the first items pass a test
@@ -81,7 +84,7 @@ port_of kind ports i h = by (slice_get ports i) refl
     by (Some port) e = (port, e, sym (ap (port_is kind false) e) ∙ h)
 
 -- in which list a port of a kind stands
-sound_beside : (kind : PortKind) → is_sound kind ≡ true → beside kind ≡ is_sound
+pub sound_beside : (kind : PortKind) → is_sound kind ≡ true → beside kind ≡ is_sound
 sound_beside Audio h = refl
 sound_beside Cv h = refl
 sound_beside Control h = absurd (false≢true h)
@@ -115,9 +118,17 @@ controls = record { own = control_beside }
 pub atoms : IsList is_atom
 atoms = record { own = atom_beside }
 
-of_kind : (side own : Bool) → (not side && own) ≡ true → own ≡ true
-of_kind false own h = h
-of_kind true own h = absurd (false≢true h)
+pub own_kind : (side own : Bool) → (not side && own) ≡ true → own ≡ true
+own_kind false own h = h
+own_kind true own h = absurd (false≢true h)
+
+-- before a run an output of sound is silent
+pub quiet_sound : (frames : ℕ) (kind : PortKind) → is_sound kind ≡ true → quiet frames kind ≡ sound (silence frames)
+quiet_sound frames Audio h = refl
+quiet_sound frames Cv h = refl
+quiet_sound frames Control h = absurd (false≢true h)
+quiet_sound frames Atom h = absurd (false≢true h)
+quiet_sound frames Unsupported h = absurd (false≢true h)
 
 -- as many outputs of its kinds stand before a port
 pub place_is : (kind : PortKind → Bool) (ports : List Port) (i : ℕ) (port : Port) → IsList kind → AreNumbered ports → slice_get ports i ≡ Some port
@@ -125,7 +136,7 @@ pub place_is : (kind : PortKind → Bool) (ports : List Port) (i : ℕ) (port : 
 place_is kind ports i port list numbered here is =
     get_or-map (place_in ports) ports i port 0 (slice_get_within ports i port here)
     ∙ ap (place_in ports) (get_or_from_slice_get ports i port port here)
-    ∙ (λ t. count_in (is_output_of (list.own port.kind (of_kind port.input (kind port.kind) is) t)) ports (numbered i port here t))
+    ∙ (λ t. count_in (is_output_of (list.own port.kind (own_kind port.input (kind port.kind) is) t)) ports (numbered i port here t))
 
 -- different ports of a list have different places
 pub places_apart : (kind : PortKind → Bool) (ports : List Port) (i j : ℕ) → IsList kind → AreNumbered ports

@@ -16,7 +16,7 @@ use Rattle.block_signals.specs.declared.outlets.Outlets.{Outlets}
 use Rattle.block_signals.specs.Board.{Board, blank, block_begun}
 use Rattle.block_signals.specs.Outlets.{ShowsInstance, ShowsOutputs}
 use Rattle.block_signals.specs.Places.{quiet_outs}
-use Rattle.block_signals.proofs.Outs.{begun_outlet, silenced_after}
+use Rattle.block_signals.proofs.Outs.{begun_outlet, formed_after}
 
 -- the declaration of an instance is valid
 pub decl_valid : (setup : Setup) (inst : ℕ) (found : Decl) → IsReady setup → slice_get setup.decls inst ≡ Some found → decl.IsValid found
@@ -40,7 +40,7 @@ begun_shows_instance setup board inst outlet ready shown = record {
   now = record {
     fit = tt;
     are = ap (λ (outs : Left). silenced outs) shown.before.are
-        ∙ silenced_after setup.session.block (ports_of setup inst) (board.before inst) (rooms_of setup inst ready) shown.before.fit;
+        ∙ formed_after setup.session.block (ports_of setup inst) (board.before inst) (rooms_of setup inst ready) shown.before.fit;
   };
   before = shown.now;
 }

@@ -1,5 +1,5 @@
 -- Where the signals at an input come from.
-use Rattle.std.specs.Prelude.{ℕ, ◌==◌, not, ◌&&◌, if◌then◌else◌, List, filter_map, Option, Some, None, option_and_then}
+use Rattle.std.specs.Prelude.{ℕ, ◌==◌, Bool, not, ◌&&◌, if◌then◌else◌, List, filter_map, Option, Some, None, option_and_then}
 use Rattle.std.specs.Str.{bytes_eq}
 use Rattle.plugin_decl.specs.declared.declaration.Port.{Port}
 use Rattle.plugin_decl.specs.declared.declaration.PortKind.{PortKind}
@@ -22,9 +22,13 @@ source_at setup kind cable output =
 abbrev pub source_of : Setup → PortKind → CableLine → Option Source
 source_of setup kind cable = option_and_then (source_at setup kind cable) (port_at setup.decls cable.source cable.output)
 
--- that of a cable that leads to a port
+-- a cable leads to a port of an instance
+abbrev pub leads_to : ℕ → Port → CableLine → Bool
+leads_to inst port cable = cable.target == inst && bytes_eq cable.input port.symbol
+
+-- the source of one that does
 abbrev pub source_to : Setup → ℕ → Port → CableLine → Option Source
-source_to setup inst port cable = if cable.target == inst && bytes_eq port.symbol cable.input then source_of setup port.kind cable else None
+source_to setup inst port cable = if leads_to inst port cable then source_of setup port.kind cable else None
 
 -- those of all cables, in order of their lines
 abbrev pub sources_to : Setup → ℕ → Port → List Source

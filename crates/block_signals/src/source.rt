@@ -87,10 +87,16 @@ fn source_to(setup: &Setup, inst: u32, port: &Port, cable: &CableLine) -> Option
     requires { IsReady setup.now }
     ensures { result ≡ spec.source_to setup.now inst port.now cable.now }
 {
-    if cable.target == inst && has_symbol(port, &cable.input) {
+    if leads_to(cable, inst, port) {
         return source_of(setup, port.kind, cable);
     }
     None
+}
+
+fn leads_to(cable: &CableLine, inst: u32, port: &Port) -> bool
+    ensures { result ≡ spec.leads_to inst port.now cable.now }
+{
+    cable.target == inst && cable.input.as_str() == port.symbol.as_str()
 }
 
 fn source_of(setup: &Setup, kind: PortKind, cable: &CableLine) -> Option<Source>
