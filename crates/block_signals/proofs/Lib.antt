@@ -1,4 +1,5 @@
 pub mod Boards
+pub mod Filling
 pub mod Heard
 pub mod Mixes
 pub mod Outs

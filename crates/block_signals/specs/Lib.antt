@@ -1,5 +1,6 @@
 pub mod Board
 pub mod Given
+pub mod Inlets
 pub mod Laws
 pub mod Lending
 pub mod Mixing

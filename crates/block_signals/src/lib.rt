@@ -1,12 +1,14 @@
 //! The signals of a block as a host keeps them: what outputs gave in this block and in the one before, and what each run is given of it.
 #![tactic(auto)]
 
+mod inlet;
 mod laws;
 mod mixing;
 mod outlet;
 mod outlets;
 mod source;
 
+pub use inlet::Inlet;
 pub use laws::{
     action_is_taken, block_begins, board_begins_blank, board_gives_inputs, nothing_else_counts,
     run_ends,
