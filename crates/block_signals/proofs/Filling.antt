@@ -75,6 +75,7 @@ fills_more frames first old new outlets inputs n input fills at can is =
   where
     changes : Changes frames old (with_input frames old outlets n input) outlets n input
     changes = changes_one frames old outlets n input can
+
     by : (i : ℕ) (other : Input) → slice_get inputs i ≡ Some other → (i < n) ⊎ (n ≤ i) → i < n + 1 → IsPut frames (with_input frames old outlets n input) outlets i other
     by i other e (inl k) h = put_stays frames old (with_input frames old outlets n input) outlets i other (changes.apart i (λ same. omega (arith, same, k))) (fills.put i other k e)
     by i other e (inr k) h =

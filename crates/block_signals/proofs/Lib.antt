@@ -1,6 +1,8 @@
 pub mod Boards
 pub mod Filling
+pub mod Given
 pub mod Heard
+pub mod Lists
 pub mod Mixes
 pub mod Outs
 pub mod Places

@@ -2,6 +2,7 @@
 #![tactic(auto)]
 
 mod inlet;
+mod inlets;
 mod laws;
 mod mixing;
 mod outlet;
@@ -9,6 +10,7 @@ mod outlets;
 mod source;
 
 pub use inlet::Inlet;
+pub use inlets::Inlets;
 pub use laws::{
     action_is_taken, block_begins, board_begins_blank, board_gives_inputs, nothing_else_counts,
     run_ends,
