@@ -2,10 +2,12 @@ pub mod Boards
 pub mod Filling
 pub mod Given
 pub mod Heard
+pub mod Lent
 pub mod Lists
 pub mod Mixes
 pub mod Outs
 pub mod Places
+pub mod Ran
 pub mod Shown
 pub mod Sources
 pub mod Written

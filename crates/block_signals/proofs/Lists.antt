@@ -50,3 +50,10 @@ pub set_here : {X : Type 0} → (xs : List X) (i : ℕ) (x : X) → i < length x
 set_here [] i x h = absurd (omega (arith, h))
 set_here (y ∷ xs) zero x h = refl
 set_here (y ∷ xs) (suc i) x h = set_here xs i x (omega (arith, h))
+
+pub set_apart : {X : Type 0} → (xs : List X) (i : ℕ) (x : X) (k : ℕ) → (i ≡ k → ⊥) → slice_get (set xs i x) k ≡ slice_get xs k
+set_apart [] i x k ne = refl
+set_apart (y ∷ xs) zero x zero ne = absurd (ne refl)
+set_apart (y ∷ xs) zero x (suc k) ne = refl
+set_apart (y ∷ xs) (suc i) x zero ne = refl
+set_apart (y ∷ xs) (suc i) x (suc k) ne = set_apart xs i x k (λ same. ne (ap suc same))

@@ -2,8 +2,11 @@ pub mod Board
 pub mod Given
 pub mod Inlets
 pub mod Laws
+pub mod Lent
 pub mod Lending
 pub mod Mixing
 pub mod Outlets
 pub mod Places
+pub mod Running
+pub mod Setting
 pub mod Sources

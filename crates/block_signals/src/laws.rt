@@ -1,4 +1,6 @@
 ghost use Rattle.block_signals.specs.Laws.{BoardGivesInputs, BoardBeginsBlank, BlockBegins, RunEnds, ActionIsTaken, NothingElseCounts};
+ghost use Rattle.block_signals.specs.Lent.{FilledIsReady};
+ghost use Rattle.block_signals.specs.Running.{NotRunIsQuiet, RunIsShown};
 
 /// What is known at a moment says what each run is given.
 pub fn board_gives_inputs<F, B>()
@@ -28,4 +30,15 @@ pub fn action_is_taken<F, B>()
 /// No other moment of audio changes what is known.
 pub fn nothing_else_counts<F, B>()
     ensures { NothingElseCounts F B }
+{}
+
+/// Ports over the filled inputs of an instance and over quiet outputs are lent as a run wants them, and give it what is known.
+pub fn filled_is_ready()
+    ensures { FilledIsReady }
+{}
+
+/// The outputs of an instance that didn't run in a block are quiet; once its run wrote there, they show what it gave.
+pub fn run_is_shown()
+    ensures quiet { NotRunIsQuiet }
+    ensures shown { RunIsShown }
 {}

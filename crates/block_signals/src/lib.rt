@@ -12,8 +12,8 @@ mod source;
 pub use inlet::Inlet;
 pub use inlets::Inlets;
 pub use laws::{
-    action_is_taken, block_begins, board_begins_blank, board_gives_inputs, nothing_else_counts,
-    run_ends,
+    action_is_taken, block_begins, board_begins_blank, board_gives_inputs, filled_is_ready,
+    nothing_else_counts, run_ends, run_is_shown,
 };
 pub use outlet::Outlet;
 pub use outlets::Outlets;
