@@ -8,6 +8,7 @@ pub mod Mixes
 pub mod Outs
 pub mod Places
 pub mod Ran
+pub mod Setting
 pub mod Shown
 pub mod Sources
 pub mod Written

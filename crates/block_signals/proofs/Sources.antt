@@ -1,5 +1,5 @@
 -- The sources of an input, cable by cable.
-use Rattle.std.proofs.Common.{◌≡◌, ℕ, ◌+◌, ◌<◌, Bool, List, [], ◌∷◌, ◌++◌, length, get_or, take, slice_get, Option, Some, None, refl, sym, ap, subst, ◌∙◌, arith}
+use Rattle.std.proofs.Common.{◌≡◌, ℕ, ◌+◌, ◌<◌, Bool, true, List, [], ◌∷◌, ◌++◌, length, get_or, take, slice_get, Option, Some, None, refl, sym, ap, subst, ◌∙◌, arith}
 use Rattle.std.specs.Prelude.{filter_map, IfSome, find}
 use Rattle.std.specs.List.{position_or_len}
 use Rattle.std.specs.Option.{option_to_list}
@@ -7,7 +7,8 @@ use Rattle.std.specs.Str.{bytes_eq}
 use Rattle.std.proofs.lemmas.List.{take_more}
 use Rattle.std.proofs.lemmas.List.Elements.{filter_map-append}
 use Rattle.std.proofs.lemmas.List.Folds.{find_at}
-use Rattle.std.proofs.lemmas.Option.{slice_get_within}
+use Rattle.std.proofs.lemmas.List.Sums.{passes_at_first}
+use Rattle.std.proofs.lemmas.Option.{slice_get_within, get_or_from_slice_get}
 use Rattle.plugin_decl.specs.declared.declaration.Decl.{Decl}
 use Rattle.plugin_decl.specs.declared.declaration.Port.{Port}
 use Rattle.plugin_decl.specs.Valid as decl
@@ -32,6 +33,13 @@ kept_more f xs i x old new found h is before finds after =
 
 pub found_there : (p : Port → Bool) (ports : List Port) (port : Port) → find p ports ≡ Some port → (i : ℕ) × (slice_get ports i ≡ Some port)
 found_there p ports port is = (position_or_len p ports, sym (find_at p ports) ∙ is)
+
+-- and it passes
+pub found_passes : (p : Port → Bool) (ports : List Port) (port : Port) → find p ports ≡ Some port → p port ≡ true
+found_passes p ports port is =
+    let here : slice_get ports (position_or_len p ports) ≡ Some port = sym (find_at p ports) ∙ is in
+    ap p (sym (get_or_from_slice_get ports (position_or_len p ports) port port here))
+    ∙ passes_at_first p ports port (slice_get_within ports (position_or_len p ports) port here)
 
 pub index_of : (one : Decl) (i : ℕ) (port : Port) → decl.IsValid one → slice_get one.ports i ≡ Some port → port.index ≡ i
 index_of one i port valid here = let P : Option Port → Type 0 = λ found. IfSome found (λ (it : Port). it.index ≡ i) in subst P here (valid.numbered i)
