@@ -87,7 +87,7 @@ shown_sound frames ports given outs i port numbered shown at here =
 -- ---- over one cable
 
 -- a source has what comes over its cable; over a cable without one comes nothing that can be heard
-abbrev CableHeard : ℕ → Outlets → List Sample → Option Source → Type 0
+abbrev pub CableHeard : ℕ → Outlets → List Sample → Option Source → Type 0
 CableHeard frames outlets part None = IsSilent part
 CableHeard frames outlets part (Some source) = IsHeard frames outlets source × (heard outlets source ≡ part)
 
@@ -151,7 +151,7 @@ output_there setup outlets board cable output ready shows is =
       ap (λ (it : Option Decl). slice_get (option_map_or (λ (d : Decl). d.ports) it []) found.0) here ∙ found.1,
     ))
 
-cable_heard : (setup : Setup) (board : Board) (outlets : Outlets) (kind : PortKind) (cable : CableLine) → is_sound kind ≡ true
+pub cable_heard : (setup : Setup) (board : Board) (outlets : Outlets) (kind : PortKind) (cable : CableLine) → is_sound kind ≡ true
     → IsReady setup → ShowsOutputs setup board outlets
     → CableHeard setup.session.block outlets (samples_in (cable_brings setup board cable)) (source_of setup kind cable)
 cable_heard setup board outlets kind cable sounding ready shows = by (port_at setup.decls cable.source cable.output) refl

@@ -1,4 +1,5 @@
 pub mod Boards
+pub mod Hearing
 pub mod Filling
 pub mod Given
 pub mod Heard
@@ -6,6 +7,7 @@ pub mod Lent
 pub mod Lists
 pub mod Mixes
 pub mod Outs
+pub mod Parts
 pub mod Places
 pub mod Ran
 pub mod Setting

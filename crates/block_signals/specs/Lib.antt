@@ -1,4 +1,5 @@
 pub mod Board
+pub mod Channels
 pub mod Given
 pub mod Inlets
 pub mod Laws
@@ -6,6 +7,7 @@ pub mod Lent
 pub mod Lending
 pub mod Mixing
 pub mod Outlets
+pub mod Parts
 pub mod Places
 pub mod Running
 pub mod Setting

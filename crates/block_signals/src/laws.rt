@@ -1,4 +1,6 @@
 ghost use Rattle.block_signals.specs.Laws.{BoardGivesInputs, BoardBeginsBlank, BlockBegins, RunEnds, ActionIsTaken, NothingElseCounts};
+ghost use Rattle.block_signals.specs.Channels.{BoardGivesBlock};
+ghost use Rattle.block_signals.specs.Parts.{OutputsStay, ValuesStay};
 ghost use Rattle.block_signals.specs.Lent.{FilledIsReady};
 ghost use Rattle.block_signals.specs.Running.{NotRunIsQuiet, RunIsShown};
 
@@ -41,4 +43,15 @@ pub fn filled_is_ready()
 pub fn run_is_shown()
     ensures quiet { NotRunIsQuiet }
     ensures shown { RunIsShown }
+{}
+
+/// What is known once the runs of a block have ended says what its PCM is.
+pub fn board_gives_block<F, B>()
+    ensures { BoardGivesBlock F B }
+{}
+
+/// Where what runs gave stays, outputs show it still, and so it is with the values of inputs.
+pub fn parts_stay()
+    ensures outputs { OutputsStay }
+    ensures values { ValuesStay }
 {}

@@ -5,6 +5,7 @@ ghost use Rattle.graph_order.specs.Setup.{IsReady};
 ghost use Rattle.graph_order.specs.Ports.{port_in, port_at};
 ghost use Rattle.plugin_decl.specs.declared.declaration.Port.{Port};
 ghost use Rattle.session_play.specs.Setup.{ports_of};
+ghost use Rattle.session_script.specs.declared.session.CableLine.{CableLine};
 ghost use Rattle.block_signals.specs.Sources as spec;
 
 use crate::outlet::{is_atom, is_sound, place_in, stands_beside};
@@ -88,7 +89,7 @@ fn source_to(setup: &Setup, inst: u32, port: &Port, cable: &CableLine) -> Option
     ensures { result ≡ spec.source_to setup.now inst port.now cable.now }
 {
     if leads_to(cable, inst, port) {
-        return source_of(setup, port.kind, cable);
+        return source_of(setup, port.kind, cable.source, &cable.output, cable.delayed);
     }
     None
 }
@@ -99,19 +100,26 @@ fn leads_to(cable: &CableLine, inst: u32, port: &Port) -> bool
     cable.target == inst && cable.input.as_str() == port.symbol.as_str()
 }
 
-fn source_of(setup: &Setup, kind: PortKind, cable: &CableLine) -> Option<Source>
+/// An output of an instance as a source, if it stands in one list with a kind.
+pub(crate) fn source_of(
+    setup: &Setup,
+    kind: PortKind,
+    inst: u32,
+    symbol: &Text,
+    delayed: bool,
+) -> Option<Source>
     requires { IsReady setup.now }
-    ensures { result ≡ spec.source_of setup.now kind cable.now }
+    ensures { (cable : CableLine) → cable.source ≡ inst → cable.output ≡ symbol.now → cable.delayed ≡ delayed → result ≡ spec.source_of setup.now kind cable }
 {
-    let decl = setup.decls.get(cable.source as usize)?;
-    let output = port_in(decl, &cable.output)?;
+    let decl = setup.decls.get(inst as usize)?;
+    let output = port_in(decl, symbol)?;
     if output.input || !stands_beside(kind, output.kind) {
         return None;
     }
     Some(Source {
-        inst: cable.source,
+        inst,
         place: place_in(decl.ports.as_slice(), output),
-        delayed: cable.delayed,
+        delayed,
     })
 }
 
