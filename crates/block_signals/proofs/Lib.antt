@@ -1,0 +1,16 @@
+pub mod Boards
+pub mod Hearing
+pub mod Filling
+pub mod Given
+pub mod Heard
+pub mod Lent
+pub mod Lists
+pub mod Mixes
+pub mod Outs
+pub mod Parts
+pub mod Places
+pub mod Ran
+pub mod Setting
+pub mod Shown
+pub mod Sources
+pub mod Written

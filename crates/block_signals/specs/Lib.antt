@@ -1,0 +1,14 @@
+pub mod Board
+pub mod Channels
+pub mod Given
+pub mod Inlets
+pub mod Laws
+pub mod Lent
+pub mod Lending
+pub mod Mixing
+pub mod Outlets
+pub mod Parts
+pub mod Places
+pub mod Running
+pub mod Setting
+pub mod Sources
