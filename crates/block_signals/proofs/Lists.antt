@@ -3,7 +3,7 @@ use Rattle.std.proofs.Common.{◌≡◌, ℕ, zero, suc, ◌+◌, ◌<◌, List,
 use Rattle.std.proofs.lemmas.List.{length-map, length-take-le, drop_more, set_at, map_more}
 use Rattle.std.proofs.lemmas.Option.{none-some, same_Some, slice_get-map, get_or_from_slice_get}
 
--- an item that is found behind a list with one more is that one, or was there
+-- an item that is found in a list with one more is that one, or was there
 pub pushed_get : {X : Type 0} → (xs : List X) (y : X) (i : ℕ) (x : X) → slice_get (xs ++ y ∷ []) i ≡ Some x → (slice_get xs i ≡ Some x) ⊎ ((i ≡ length xs) × (y ≡ x))
 pushed_get [] y zero x e = inr (refl, same_Some y x e)
 pushed_get [] y (suc i) x e = absurd (none-some x e)

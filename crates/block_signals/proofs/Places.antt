@@ -31,7 +31,7 @@ count_steps p xs i (suc k) d h =
     let same : i + suc k ≡ i + k + 1 = omega arith in
     rw same (omega (arith, rest, more, one_or_none (p (get_or xs (i + k) d))))
 
--- an item that passes is counted behind it, and not before
+-- an item that passes is counted after it, and not before
 pub count_grows : {X : Type 0} → (p : X → Bool) (xs : List X) (i j : ℕ) (x : X) → slice_get xs i ≡ Some x → p x ≡ true → i < j → j ≤ length xs
     → count_in p xs i < count_in p xs j
 count_grows p xs i j x here passes lower within =

@@ -1,4 +1,4 @@
--- Where an instance's outputs stand: in the list of their kind, one behind the other.
+-- Where an instance's outputs stand: in the list of their kind, one after the other.
 use Rattle.std.specs.Prelude.{ℕ, Bool, false, not, ◌&&◌, List, [], length, map, filter, take, replicate, Option, unwrap_or}
 use Rattle.plugin_decl.specs.declared.declaration.Port.{Port}
 use Rattle.plugin_decl.specs.declared.declaration.PortKind.{PortKind}
