@@ -46,17 +46,25 @@ fn fill_second(alloc: Global, setup: &Setup) -> Result<bool, Fail>
     Ok(true)
 }
 
+fn is_second_filled(alloc: Global) -> Result<bool, Fail> {
+    let setup = setup(alloc, CIRCLE.as_bytes())?;
+    fill_second(alloc, &setup)
+}
+
+fn heard(alloc: Global) -> Result<Vec<u8>, Fail> {
+    let setup = setup(alloc, CIRCLE.as_bytes())?;
+    quiet_block(alloc, &setup)
+}
+
 #[test]
 fn inputs_are_filled(rt: HostRuntime) -> Result<(), Fail> {
-    let setup = setup(rt.alloc(), CIRCLE.as_bytes())?;
-    assert!(rt; fill_second(rt.alloc(), &setup)?);
+    assert!(rt; is_second_filled(rt.alloc())?);
     Ok(())
 }
 
 #[test]
 fn nothing_is_heard(rt: HostRuntime) -> Result<(), Fail> {
-    let setup = setup(rt.alloc(), CIRCLE.as_bytes())?;
-    let pcm = quiet_block(rt.alloc(), &setup)?;
+    let pcm = heard(rt.alloc())?;
     assert!(rt; pcm.as_slice() == [0, 0, 0, 0, 0, 0].as_slice());
     Ok(())
 }

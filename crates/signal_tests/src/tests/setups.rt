@@ -19,6 +19,14 @@ pub fn setup(alloc: Global, script: &[u8]) -> Result<Setup, Fail>
 {
     let session = session(alloc, script)?;
     let decls = decls(alloc, session.insts.len())?;
+    planned(alloc, session, decls)
+}
+
+fn planned(alloc: Global, session: Session, decls: Items<Decl>) -> Result<Setup, Fail>
+    requires session { IsValid session }
+    requires decls { All decl.IsValid decls }
+    ensures { IfOk result IsReady }
+{
     if decls.len() != session.insts.len() {
         return Err(Fail::from("no declarations"));
     }
