@@ -3,10 +3,11 @@ ghost use Rattle.std.specs.Prelude.{◌≡◌};
 ghost use Rattle.plugin_decl.specs.declared.declaration.Port.{Port};
 ghost use Rattle.stock_tests.specs.Bench.{IsBench, HaveOuts};
 
-use super::bench::{Played, bench_for, play_first, put_samples, put_value};
+use super::bench::{Bench, Played, bench_for, play_first, put_samples, put_value};
 use lv_base::{Fixed, Sample};
 use plug_api::{Outs, has_audio, has_control};
 use plugin_decl::Port;
+use std::alloc::Global;
 use std::process::Abort;
 use std::test::Fail;
 
@@ -44,39 +45,58 @@ fn is_even(samples: &[Sample], sample: Sample) -> bool {
     samples.len() == 16 && samples.iter().all(|found| found.0 == sample.0)
 }
 
+fn plays_its_value(alloc: Global, bench: &mut Bench) -> Result<bool, Fail>
+    requires { IsBench bench.old.decl bench.old.ins }
+{
+    put_value(bench, 0, FIXED_HALF)?;
+    let played = play_first(alloc, bench)?;
+    let samples = heard(&played.outs, bench.decl.ports.as_slice(), 1);
+    Ok(is_even(samples, HALF))
+}
+
 #[test]
 fn a_constant_is_its_value(rt: HostRuntime) -> Result<(), Fail> {
     let mut bench = bench_for(rt.alloc(), "urn:lv2fx:const")?;
-    put_value(&mut bench, 0, FIXED_HALF)?;
-    let played = play_first(rt.alloc(), &bench)?;
-    assert!(rt; is_even(heard(&played.outs, bench.decl.ports.as_slice(), 1), HALF));
+    let holds = plays_its_value(rt.alloc(), &mut bench)?;
+    assert!(rt; holds);
     Ok(())
 }
 
 /// Half of 1.0.
+fn halves(alloc: Global, bench: &mut Bench) -> Result<bool, Fail>
+    requires { IsBench bench.old.decl bench.old.ins }
+{
+    put_value(bench, 0, FIXED_HALF)?;
+    put_samples(bench, 1, &[ONE; 16])?;
+    let played = play_first(alloc, bench)?;
+    let samples = heard(&played.outs, bench.decl.ports.as_slice(), 2);
+    Ok(is_even(samples, HALF))
+}
+
 #[test]
 fn an_amplifier_halves(rt: HostRuntime) -> Result<(), Fail> {
     let mut bench = bench_for(rt.alloc(), "urn:lv2fx:amp")?;
-    put_value(&mut bench, 0, FIXED_HALF)?;
-    put_samples(&mut bench, 1, &[ONE; 16])?;
-    let played = play_first(rt.alloc(), &bench)?;
-    assert!(rt; is_even(heard(&played.outs, bench.decl.ports.as_slice(), 2), HALF));
+    let holds = halves(rt.alloc(), &mut bench)?;
+    assert!(rt; holds);
     Ok(())
 }
 
 /// 1.0 and 0.5.
+fn adds(alloc: Global, bench: &mut Bench) -> Result<bool, Fail>
+    requires { IsBench bench.old.decl bench.old.ins }
+{
+    put_samples(bench, 0, &[ONE; 16])?;
+    put_samples(bench, 1, &[HALF; 16])?;
+    let played = play_first(alloc, bench)?;
+    let samples = heard(&played.outs, bench.decl.ports.as_slice(), 2);
+    Ok(is_even(samples, Sample(3 << 23)))
+}
+
 #[test]
 fn a_mixer_adds(rt: HostRuntime) -> Result<(), Fail> {
     let mut bench = bench_for(rt.alloc(), "urn:lv2fx:mix")?;
-    put_samples(&mut bench, 0, &[ONE; 16])?;
-    put_samples(&mut bench, 1, &[HALF; 16])?;
-    let played = play_first(rt.alloc(), &bench)?;
-    assert!(rt;
-        is_even(
-            heard(&played.outs, bench.decl.ports.as_slice(), 2),
-            Sample(3 << 23)
-        )
-    );
+    let holds = adds(rt.alloc(), &mut bench)?;
+    assert!(rt; holds);
     Ok(())
 }
 
@@ -90,16 +110,27 @@ fn is_echo(samples: &[Sample]) -> bool {
         })
 }
 
+fn echoes(alloc: Global, bench: &mut Bench) -> Result<bool, Fail>
+    requires { IsBench bench.old.decl bench.old.ins }
+{
+    let mut samples = [Sample(0); 16];
+    samples[0] = ONE;
+    put_samples(bench, 0, &samples)?;
+    put_value(bench, 2, FIXED_HALF)?;
+    let played = play_first(alloc, bench)?;
+    Ok(is_echo(heard(&played.outs, bench.decl.ports.as_slice(), 1)))
+}
+
 #[test]
 fn an_echo_comes_after_eight_frames(rt: HostRuntime) -> Result<(), Fail> {
     let mut bench = bench_for(rt.alloc(), "urn:lv2fx:echo")?;
-    let mut samples = [Sample(0); 16];
-    samples[0] = ONE;
-    put_samples(&mut bench, 0, &samples)?;
-    put_value(&mut bench, 2, FIXED_HALF)?;
-    let played = play_first(rt.alloc(), &bench)?;
-    assert!(rt; is_echo(heard(&played.outs, bench.decl.ports.as_slice(), 1)));
+    let holds = echoes(rt.alloc(), &mut bench)?;
+    assert!(rt; holds);
     Ok(())
+}
+
+fn is_value(found: Option<Fixed>, value: i64) -> bool {
+    found.is_some_and(|found| found.0 == value)
 }
 
 /// Whether these are the jobs.
@@ -114,36 +145,59 @@ fn are_jobs(played: &Played, jobs: &[&[u8]]) -> bool {
 }
 
 /// Silence, a job with the number 0, and no refusal.
+fn fetches(alloc: Global, bench: &mut Bench) -> Result<bool, Fail>
+    requires { IsBench bench.old.decl bench.old.ins }
+{
+    let played = play_first(alloc, bench)?;
+    let ports = bench.decl.ports.as_slice();
+    let silent = is_even(heard(&played.outs, ports, 0), Sample(0));
+    let refused = told(&played.outs, ports, 1);
+    Ok(silent && is_value(refused, 0) && are_jobs(&played, &[[0; 8].as_slice()]))
+}
+
 #[test]
 fn fetch_attempts_its_first_job(rt: HostRuntime) -> Result<(), Fail> {
-    let bench = bench_for(rt.alloc(), "urn:lv2fx:fetch")?;
-    let played = play_first(rt.alloc(), &bench)?;
-    let ports = bench.decl.ports.as_slice();
-    assert!(rt; is_even(heard(&played.outs, ports, 0), Sample(0)));
-    assert!(rt; told(&played.outs, ports, 1).is_some_and(|value| value.0 == 0));
-    assert!(rt; are_jobs(&played, &[[0; 8].as_slice()]));
+    let mut bench = bench_for(rt.alloc(), "urn:lv2fx:fetch")?;
+    let holds = fetches(rt.alloc(), &mut bench)?;
+    assert!(rt; holds);
     Ok(())
 }
 
 /// Of six jobs of two bytes four are taken, as many as there are cells, and two refused.
+fn bursts(alloc: Global, bench: &mut Bench) -> Result<bool, Fail>
+    requires { IsBench bench.old.decl bench.old.ins }
+{
+    put_value(bench, 0, Fixed(6 << 24))?;
+    put_value(bench, 1, Fixed(2 << 24))?;
+    let played = play_first(alloc, bench)?;
+    let ports = bench.decl.ports.as_slice();
+    let taken = told(&played.outs, ports, 2);
+    let refused = told(&played.outs, ports, 3);
+    let jobs = are_jobs(&played, &[&[0, 0], &[1, 1], &[2, 2], &[3, 3]]);
+    Ok(is_value(taken, 4 << 24) && is_value(refused, 2 << 24) && jobs)
+}
+
 #[test]
 fn burst_fills_the_queue(rt: HostRuntime) -> Result<(), Fail> {
     let mut bench = bench_for(rt.alloc(), "urn:lv2fx:burst")?;
-    put_value(&mut bench, 0, Fixed(6 << 24))?;
-    put_value(&mut bench, 1, Fixed(2 << 24))?;
-    let played = play_first(rt.alloc(), &bench)?;
-    let ports = bench.decl.ports.as_slice();
-    assert!(rt; told(&played.outs, ports, 2).is_some_and(|value| value.0 == 4 << 24));
-    assert!(rt; told(&played.outs, ports, 3).is_some_and(|value| value.0 == 2 << 24));
-    assert!(rt; are_jobs(&played, &[&[0, 0], &[1, 1], &[2, 2], &[3, 3]]));
+    let holds = bursts(rt.alloc(), &mut bench)?;
+    assert!(rt; holds);
     Ok(())
+}
+
+fn keeps(alloc: Global, bench: &mut Bench) -> Result<bool, Fail>
+    requires { IsBench bench.old.decl bench.old.ins }
+{
+    put_value(bench, 1, FIXED_HALF)?;
+    let played = play_first(alloc, bench)?;
+    let samples = heard(&played.outs, bench.decl.ports.as_slice(), 0);
+    Ok(is_even(samples, HALF))
 }
 
 #[test]
 fn keep_adds_its_value(rt: HostRuntime) -> Result<(), Fail> {
     let mut bench = bench_for(rt.alloc(), "urn:lv2fx:keep")?;
-    put_value(&mut bench, 1, FIXED_HALF)?;
-    let played = play_first(rt.alloc(), &bench)?;
-    assert!(rt; is_even(heard(&played.outs, bench.decl.ports.as_slice(), 0), HALF));
+    let holds = keeps(rt.alloc(), &mut bench)?;
+    assert!(rt; holds);
     Ok(())
 }
