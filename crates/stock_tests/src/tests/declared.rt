@@ -37,7 +37,13 @@ pub(super) fn declared(alloc: Global, uri: &str) -> Result<Decl, Fail>
         return Err(Fail::new("no code"));
     };
     let store = store_of(alloc, text)?;
-    match declare(alloc, &store, &uri, 8) {
+    judged(alloc, &store, &uri)
+}
+
+fn judged(alloc: Global, store: &Store, uri: &Text) -> Result<Decl, Fail>
+    ensures { IfOk result IsValid }
+{
+    match declare(alloc, store, uri, 8) {
         Ok(decl) => Ok(decl),
         Err(_) => Err(Fail::new("not declared")),
     }
@@ -63,10 +69,14 @@ fn line_of(alloc: Global, decl: &Decl) -> Result<String, Fail> {
     )?)
 }
 
+fn found_line(alloc: Global, uri: &str) -> Result<String, Fail> {
+    let decl = declared(alloc, uri)?;
+    line_of(alloc, &decl)
+}
+
 fn is_declared(rt: &impl Abort, alloc: Global, line: &str) -> Result<(), Fail> {
     let (uri, _) = line.split_once(' ').ok_or("a line")?;
-    let decl = declared(alloc, uri)?;
-    let found = line_of(alloc, &decl)?;
+    let found = found_line(alloc, uri)?;
     assert_eq!(rt; found.as_str(), line);
     Ok(())
 }

@@ -54,11 +54,14 @@ fn plays_its_value(alloc: Global, bench: &mut Bench) -> Result<bool, Fail>
     Ok(is_even(samples, HALF))
 }
 
+fn plays_its_value_as_told(alloc: Global) -> Result<bool, Fail> {
+    let mut bench = bench_for(alloc, "urn:lv2fx:const")?;
+    plays_its_value(alloc, &mut bench)
+}
+
 #[test]
 fn a_constant_is_its_value(rt: HostRuntime) -> Result<(), Fail> {
-    let mut bench = bench_for(rt.alloc(), "urn:lv2fx:const")?;
-    let holds = plays_its_value(rt.alloc(), &mut bench)?;
-    assert!(rt; holds);
+    assert!(rt; plays_its_value_as_told(rt.alloc())?);
     Ok(())
 }
 
@@ -73,11 +76,14 @@ fn halves(alloc: Global, bench: &mut Bench) -> Result<bool, Fail>
     Ok(is_even(samples, HALF))
 }
 
+fn halves_as_told(alloc: Global) -> Result<bool, Fail> {
+    let mut bench = bench_for(alloc, "urn:lv2fx:amp")?;
+    halves(alloc, &mut bench)
+}
+
 #[test]
 fn an_amplifier_halves(rt: HostRuntime) -> Result<(), Fail> {
-    let mut bench = bench_for(rt.alloc(), "urn:lv2fx:amp")?;
-    let holds = halves(rt.alloc(), &mut bench)?;
-    assert!(rt; holds);
+    assert!(rt; halves_as_told(rt.alloc())?);
     Ok(())
 }
 
@@ -92,11 +98,14 @@ fn adds(alloc: Global, bench: &mut Bench) -> Result<bool, Fail>
     Ok(is_even(samples, Sample(3 << 23)))
 }
 
+fn adds_as_told(alloc: Global) -> Result<bool, Fail> {
+    let mut bench = bench_for(alloc, "urn:lv2fx:mix")?;
+    adds(alloc, &mut bench)
+}
+
 #[test]
 fn a_mixer_adds(rt: HostRuntime) -> Result<(), Fail> {
-    let mut bench = bench_for(rt.alloc(), "urn:lv2fx:mix")?;
-    let holds = adds(rt.alloc(), &mut bench)?;
-    assert!(rt; holds);
+    assert!(rt; adds_as_told(rt.alloc())?);
     Ok(())
 }
 
@@ -121,11 +130,14 @@ fn echoes(alloc: Global, bench: &mut Bench) -> Result<bool, Fail>
     Ok(is_echo(heard(&played.outs, bench.decl.ports.as_slice(), 1)))
 }
 
+fn echoes_as_told(alloc: Global) -> Result<bool, Fail> {
+    let mut bench = bench_for(alloc, "urn:lv2fx:echo")?;
+    echoes(alloc, &mut bench)
+}
+
 #[test]
 fn an_echo_comes_after_eight_frames(rt: HostRuntime) -> Result<(), Fail> {
-    let mut bench = bench_for(rt.alloc(), "urn:lv2fx:echo")?;
-    let holds = echoes(rt.alloc(), &mut bench)?;
-    assert!(rt; holds);
+    assert!(rt; echoes_as_told(rt.alloc())?);
     Ok(())
 }
 
@@ -155,11 +167,14 @@ fn fetches(alloc: Global, bench: &mut Bench) -> Result<bool, Fail>
     Ok(silent && is_value(refused, 0) && are_jobs(&played, &[[0; 8].as_slice()]))
 }
 
+fn fetches_as_told(alloc: Global) -> Result<bool, Fail> {
+    let mut bench = bench_for(alloc, "urn:lv2fx:fetch")?;
+    fetches(alloc, &mut bench)
+}
+
 #[test]
 fn fetch_attempts_its_first_job(rt: HostRuntime) -> Result<(), Fail> {
-    let mut bench = bench_for(rt.alloc(), "urn:lv2fx:fetch")?;
-    let holds = fetches(rt.alloc(), &mut bench)?;
-    assert!(rt; holds);
+    assert!(rt; fetches_as_told(rt.alloc())?);
     Ok(())
 }
 
@@ -177,11 +192,14 @@ fn bursts(alloc: Global, bench: &mut Bench) -> Result<bool, Fail>
     Ok(is_value(taken, 4 << 24) && is_value(refused, 2 << 24) && jobs)
 }
 
+fn bursts_as_told(alloc: Global) -> Result<bool, Fail> {
+    let mut bench = bench_for(alloc, "urn:lv2fx:burst")?;
+    bursts(alloc, &mut bench)
+}
+
 #[test]
 fn burst_fills_the_queue(rt: HostRuntime) -> Result<(), Fail> {
-    let mut bench = bench_for(rt.alloc(), "urn:lv2fx:burst")?;
-    let holds = bursts(rt.alloc(), &mut bench)?;
-    assert!(rt; holds);
+    assert!(rt; bursts_as_told(rt.alloc())?);
     Ok(())
 }
 
@@ -194,10 +212,13 @@ fn keeps(alloc: Global, bench: &mut Bench) -> Result<bool, Fail>
     Ok(is_even(samples, HALF))
 }
 
+fn keeps_as_told(alloc: Global) -> Result<bool, Fail> {
+    let mut bench = bench_for(alloc, "urn:lv2fx:keep")?;
+    keeps(alloc, &mut bench)
+}
+
 #[test]
 fn keep_adds_its_value(rt: HostRuntime) -> Result<(), Fail> {
-    let mut bench = bench_for(rt.alloc(), "urn:lv2fx:keep")?;
-    let holds = keeps(rt.alloc(), &mut bench)?;
-    assert!(rt; holds);
+    assert!(rt; keeps_as_told(rt.alloc())?);
     Ok(())
 }
