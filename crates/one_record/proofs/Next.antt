@@ -31,7 +31,7 @@ takes_so run p e come =
     let most = and_parts (Seen run p e && (e.actor == turn run p) && takes_first run p e) (sends_first run p e) come in
     (and_parts (Seen run p e && (e.actor == turn run p)) (takes_first run p e) most.0).1
 
-sees_so : {F B : Type 0} → (run : Run F B) (p : Play F B) (e : Entry) → comes_next run p e ≡ true → Seen run p e ≡ true
+pub sees_so : {F B : Type 0} → (run : Run F B) (p : Play F B) (e : Entry) → comes_next run p e ≡ true → Seen run p e ≡ true
 sees_so run p e come =
     let most = and_parts (Seen run p e && (e.actor == turn run p) && takes_first run p e) (sends_first run p e) come in
     let more = and_parts (Seen run p e && (e.actor == turn run p)) (takes_first run p e) most.0 in

@@ -1,5 +1,5 @@
 -- How far the turns of one thread determine its record.
-use Rattle.std.specs.Prelude.{◌≡◌, ◌⊎◌, ℕ, ◌+◌, true, List, ◌∷◌, ◌++◌}
+use Rattle.std.specs.Prelude.{◌≡◌, ◌⊎◌, ℕ, ◌+◌, true, List, ◌∷◌, ◌++◌, is_some}
 use Rattle.step_law.specs.declared.actor.Actor.{Actor}
 use Rattle.step_law.specs.declared.actor.Actor.TheVariants.{Control}
 use Rattle.step_law.specs.declared.entry.Entry.{Entry}
@@ -7,7 +7,14 @@ use Rattle.step_law.specs.declared.ring.Ring.{Ring}
 use Rattle.step_law.specs.declared.ring.Ring.TheVariants.{ControlToAudio, AudioToControl}
 use Rattle.step_law.specs.Entry.{look_of, take_of, send_of, full_of, beat_of}
 use Rattle.record_law.specs.Entries.{is_by}
+use Rattle.record_law.specs.History.{own}
+use Rattle.record_law.specs.Message.{Message}
+use Rattle.record_law.specs.Protocol.{follow}
+use Rattle.record_law.specs.Task.{Due, Task}
+use Rattle.record_law.specs.Task.Task.{acting}
+use Rattle.session_play.specs.Looking.{steps_of}
 use Rattle.session_play.specs.Playing.{play_of}
+use Rattle.session_play.specs.SessionShape.{shape_of}
 use Rattle.session_play.specs.Run.{Run}
 use Rattle.session_play.specs.Value.{Play}
 use Rattle.one_thread.specs.Turns.{may_come, turn}
@@ -57,3 +64,11 @@ TakesAreFirst F B = (run : Run F B) (p : Play F B) (e : Entry) → may_come run 
 abbrev pub SendsAreFirst : Type 0 → Type 0 → Type 0
 SendsAreFirst F B = (run : Run F B) (p : Play F B) → may_come run p (send_of Control ControlToAudio) ≡ true
     → comes_next run p (beat_of (run.setup.session.blocks + 1)) ≡ true → ⊥
+
+-- while control acts, its tasks let one entry come next
+abbrev pub ActsAreOne : Type 0 → Type 0 → Type 0
+ActsAreOne F B = (run : Run F B) (p : Play F B) (taken also : Message) (stages : List Due) (rest : List Task) (e f : Entry)
+    → is_some (follow (shape_of run.setup) (own Control (steps_of p)) taken (acting stages ∷ rest) e) ≡ true
+    → is_some (follow (shape_of run.setup) (own Control (steps_of p)) also (acting stages ∷ rest) f) ≡ true
+    → may_come run p e ≡ true → may_come run p f ≡ true → comes_next run p e ≡ true → comes_next run p f ≡ true
+    → is_by Control e ≡ true → is_by Control f ≡ true → e ≡ f

@@ -1,7 +1,7 @@
 //! How far the turns of one thread determine its record. Two records of a run can part only at two entries of the actor whose turn it is.
 #![tactic(auto)]
 
-ghost use Rattle.one_record.specs.Laws.{ArePartedByTurn, LooksAreOne, BeatsAreOne, SendsAreNotRefused, TakesAreFirst, SendsAreFirst};
+ghost use Rattle.one_record.specs.Laws.{ArePartedByTurn, LooksAreOne, BeatsAreOne, SendsAreNotRefused, TakesAreFirst, SendsAreFirst, ActsAreOne};
 
 /// Two records of one thread are the same, or they begin alike and go on with two entries of the actor whose turn it is: neither is only the
 /// beginning of the other.
@@ -20,4 +20,9 @@ pub fn next_is_seen<F, B>()
 pub fn control_takes_first<F, B>()
     ensures takes { TakesAreFirst F B }
     ensures sends { SendsAreFirst F B }
+{}
+
+/// While control acts, one entry of its own may come next.
+pub fn control_acts_once<F, B>()
+    ensures { ActsAreOne F B }
 {}
