@@ -15,6 +15,7 @@ use std::alloc::Global;
 use step_record::{Entry, Kind, Record};
 
 /// Why a record isn't lawful, or can't be judged.
+#[derive(Drop)]
 pub enum Illegal {
     /// This line breaks this rule, and none before it breaks one. The first entry is on line 2; where the end is missing, it is the line after
     /// the last.
