@@ -19,7 +19,6 @@ module _ {M : Type 0} where
   cell_in [] = None
   cell_in (cell ∷ cells) = cell.1
 
-
   pub filled_cell : (cells : List (ℕ × Option M)) (place at : ℕ) (found : Option M) (message : M) → cells ≡ (place, Some message) ∷ [] → cells ≡ (at, found) ∷ rest cells → found ≡ Some message
   filled_cell cells place at found message is was = sym (ap cell_in (sym is ∙ was))
 
