@@ -216,7 +216,7 @@ pub small_kind : (n : ℕ) (v : Value) → Fits n v → kind_of v < 2 ^ 32
 small_kind n (plain p) fits = kind_small_plain p fits.0
 small_kind n (holding c ps) fits = kind_small_container c
 
--- what two framed bodies say, whatever stands behind them
+-- what two framed bodies say, whatever stands after them
 record SameFrame (k l : ℕ) (a b x y : List ℕ) : Type 0 where
   kinds : k ≡ l
   bodies : a ≡ b
@@ -300,7 +300,7 @@ mutual
       let others = parts_same n m form ps qs fits.3 fit.3 (rest_one (with_padding (atom_of v)) (with_padding (atom_of w)) (parts_of ps) (parts_of qs) widths atoms) in
       ap (λ x. part x v ps) leads ∙ ap (λ x. part k x ps) values ∙ ap (part k w) others
 
--- whatever stands behind them, two atoms with the same bytes are one value
+-- whatever stands after them, two atoms with the same bytes are one value
 pub one_atom : (n m : ℕ) (v w : Value) (x y : List ℕ) → Fits n v → Fits m w → atom_of v ++ x ≡ atom_of w ++ y → (v ≡ w) × (x ≡ y)
 one_atom n m v w x y fits fit e =
     let frame = frame_one (kind_of v) (kind_of w) (body_of v) (body_of w) x y (small_kind n v fits) (small_kind m w fit) (small_body n v fits) (small_body m w fit) e in

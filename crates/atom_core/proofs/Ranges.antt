@@ -22,7 +22,7 @@ itself xs a b le within = record { ends = range-length xs a b le within; text_is
 pub nothing : (xs : List ℕ) (a : ℕ) → Stands xs a a []
 nothing xs a = record { ends = omega arith; text_is = between_none xs a }
 
--- one text behind another
+-- one text after another
 pub behind : (xs : List ℕ) (a b c : ℕ) (s t : List ℕ) → Stands xs a b s → Stands xs b c t → Stands xs a c (s ++ t)
 behind xs a b c s t h k = record {
   ends = omega (arith, h.ends, k.ends, length-append s t);

@@ -20,7 +20,7 @@ use Rattle.atom_core.proofs.Numbers.{cells_are, u32-length, i32-length, i64-leng
 use Rattle.atom_core.proofs.Padding.{with_padding-length}
 use Rattle.atom_core.proofs.OneValue.{front_one, rest_one, u32_back, lead_length, plain_leaf, head_length, small_body, small_kind}
 
--- ---- two texts, one behind the other, taken apart
+-- ---- two texts, one after the other, taken apart
 
 inside : (bytes : List ℕ) (a b : ℕ) (text : List ℕ) → Stands bytes a b text → b - a ≤ length bytes - a
 inside bytes a b text stands =
@@ -105,7 +105,7 @@ both_true : (a b : Bool) → a ≡ true → b ≡ true → (a && b) ≡ true
 both_true true b e f = f
 both_true false b e f = absurd cc
 
--- two numbers of four bytes, and what stands behind them
+-- two numbers of four bytes, and what stands after them
 behind_numbers : (bytes : List ℕ) (at end a b : ℕ) (rest : List ℕ) → Stands bytes (at + 8) end (u32 a ++ (u32 b ++ rest)) → Stands bytes (at + 16) end rest
 behind_numbers bytes at end a b rest stands =
     let e : at + 8 + length (u32 a) ≡ at + 12 = omega (arith, u32-length a) in

@@ -18,7 +18,7 @@ record Time (bytes : List ℕ) (z : ℤ) (rest : List ℕ) : Type 0 where
   room : 8 ≤ length bytes
   after : drop 8 bytes ≡ rest
 
--- eight bytes are read, whatever stands behind them
+-- eight bytes are read, whatever stands after them
 wide_of : (z : ℤ) (rest : List ℕ) → from_le_bytes w64 (i64 z ++ rest) ≡ from_le_bytes w64 (i64 z)
 unfolding i64
 wide_of z rest = refl

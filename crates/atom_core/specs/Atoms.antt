@@ -1,4 +1,4 @@
--- The atoms of a tuple, one behind the other.
+-- The atoms of a tuple, one after the other.
 use Rattle.std.specs.Prelude.{◌≡◌, ℕ, List, Option, None, Some}
 use Rattle.atom_core.specs.declared.form.Form.TheVariants.{Tuple, Object, Sequence}
 use Rattle.atom_core.specs.Value.{Value, holding, tuple, object, sequence, Parts}

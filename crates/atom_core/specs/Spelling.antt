@@ -68,7 +68,7 @@ lead_bytes (timed time) = i64 time
 abbrev pub framed : ℕ → List ℕ → List ℕ
 framed kind body = u32 (length body) ++ (u32 kind ++ body)
 
--- bytes with zeros behind them, up to a multiple of 8
+-- bytes with zeros after them, up to a multiple of 8
 abbrev pub with_padding : List ℕ → List ℕ
 with_padding bytes = bytes ++ replicate (padded (length bytes) - length bytes) 0
 

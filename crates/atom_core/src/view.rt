@@ -37,7 +37,7 @@ pub fn read(bytes: &[u8]) -> Result<AtomView<'_>, AtomFault>
     }
 }
 
-/// What stands behind so many bytes.
+/// What stands after so many bytes.
 pub fn behind(bytes: &[u8], from: usize) -> &[u8]
     requires { from ≤ length bytes.now }
     ensures { result.now ≡ drop from bytes.now }

@@ -15,7 +15,7 @@ use Rattle.atom_forge.proofs.Levels.{begins-last}
 pub front : {A : Type 0} (n : ℕ) (xs ys : List A) → length xs ≡ n → take n (xs ++ ys) ≡ xs
 front n xs ys e = take-append-le n xs ys (omega (arith, e)) ∙ take_all n xs (omega (arith, e))
 
--- a header that stands behind some bytes gets the size of what stands behind it
+-- a header put after some bytes gets the size of what stands after it
 pub sized_is : (before body : List ℕ) (kind : ℕ) → sized (before ++ (u32 0 ++ (u32 kind ++ body))) (length before) ≡ before ++ framed kind body
 sized_is before body kind =
     let rest = u32 kind ++ body in

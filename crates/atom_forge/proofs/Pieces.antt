@@ -45,7 +45,7 @@ either_laid true bytes count e = let nothing : count ≡ 0 = omega (arith, e) in
 either_laid false bytes count e =
     let zeros : count ≡ padded (length bytes) - length bytes = omega (arith, e, with_padding-length bytes) in ap (λ n. bytes ++ replicate n 0) zeros
 
--- the zeros behind an atom
+-- the zeros after an atom
 pub laid-is : (levels : List Level) (bytes : List ℕ) (count : ℕ) → count + length bytes ≡ length (laid levels bytes) → bytes ++ replicate count 0 ≡ laid levels bytes
 laid-is levels bytes count e = either_laid (length levels == 0) bytes count e
 

@@ -399,7 +399,7 @@ few_here bytes (l ∷ levels) waits takes =
 pub few_levels : (old : Forged) (count : ℕ) → count ≡ length old.levels → TakesAtom old → count < 17
 few_levels old count is takes = omega (arith, is, few_here old.bytes old.levels old.waits takes)
 
--- what was put behind what a forge held
+-- what was put after what a forge held
 pub record Extends (old new : Forged) : Type 0 where
   pub bytes : List ℕ
   pub levels : List Level

@@ -64,7 +64,7 @@ begins [] = 0
 begins (l ∷ []) = l.at
 begins (l ∷ (m ∷ levels)) = begins (m ∷ levels)
 
--- the header that begins here has the size of all that stands behind it
+-- the header that begins here has the size of all that stands after it
 abbrev pub sized : List ℕ → ℕ → List ℕ
 sized bytes at = take at bytes ++ (u32 (length bytes - at - 8) ++ drop (at + 4) bytes)
 

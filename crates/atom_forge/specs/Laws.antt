@@ -12,7 +12,7 @@ use Rattle.atom_forge.specs.Forged.{Forged, laid, opening, with_piece, with_cont
 abbrev pub filled : Forged → Holds → List ℕ → Parts → Forged
 filled forge holds begun parts = closed (with_piece (with_container forge holds begun) (parts_of parts) false)
 
--- it holds the container's atom behind what it held, and its other containers are open as before
+-- it holds the container's atom after what it held, and its other containers are open as before
 pub record ContainerIsAtom : Type 0 where
   pub object_is : (forge : Forged) (id kind : ℕ) (parts : Parts)
       → filled forge Properties (opening 9 id kind) parts ≡ with_piece forge (atom_of (holding (object id kind) parts)) false

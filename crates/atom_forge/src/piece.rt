@@ -10,7 +10,7 @@ pub fn padded(size: usize) -> usize
     (size + 7) / 8 * 8
 }
 
-/// Puts bytes behind the others, where memory for them is there.
+/// Puts bytes after the others, where memory for them is there.
 pub fn put(bytes: &mut Vec<u8>, more: &[u8])
     requires { vec_len bytes.old + length more.now ≤ vec_capacity bytes.old }
     ensures items { bytes.new.items ≡ bytes.old.items ++ more.now }

@@ -1,4 +1,4 @@
--- An event is a time and an atom, put one behind the other.
+-- An event is a time and an atom, put one after the other.
 use Rattle.std.proofs.Common.{◌≡◌, ℕ, ◌+◌, ◌-◌, ◌<◌, ◌≤◌, true, false, List, [], ◌∷◌, ◌++◌, length, ℤ, Some, refl, sym, ap, ◌∙◌, subst, append_assoc, length-append, arith}
 use Rattle.std.proofs.lemmas.List.{append-nil}
 use Rattle.atom_core.specs.declared.view.AtomView.{AtomView}

@@ -69,7 +69,7 @@ PutsEvent old e result new =
     (λ _. (size_of e ≤ left old) × (new ≡ with_piece old (part_of (timed e.time) e.value) false))
     (λ _. (left old < size_of e) × (new ≡ old))
 
--- the same of a cursor's first event, behind which the others are left
+-- the same of a cursor's first event, after which the others are left
 abbrev pub PutsFirst : Forged → Event → List Event → Result Cursor NoRoom → Forged → Type 0
 PutsFirst old e events result new =
     MatchResult result

@@ -2,7 +2,7 @@
 use Rattle.std.specs.Prelude.{ℕ, ◌-◌, nat_le, if◌then◌else◌, List, [], ◌∷◌, ◌++◌, int_le}
 use Rattle.atom_sequence.specs.Event.{Event, size_of}
 
--- the lists one behind the other
+-- the lists one after the other
 abbrev pub joined : List (List Event) → List Event
 joined [] = []
 joined (events ∷ lists) = events ++ joined lists

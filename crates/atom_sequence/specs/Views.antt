@@ -29,6 +29,6 @@ pub record AwaitsEvent (forge : Forged) : Type 0 where
   pub level : forge.levels ≡ record { holds = Events; at = 0 } ∷ []
   pub still : forge.waits ≡ false
 
--- a forge with these events behind what it holds
+-- a forge with these events after what it holds
 abbrev pub with_events : Forged → List Event → Forged
 with_events forge events = with_piece forge (parts_of (as_parts events)) false

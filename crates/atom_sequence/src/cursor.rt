@@ -95,7 +95,7 @@ fn put_event(into: &mut Forge, time: i64, atom: AtomView<'_>) -> Result<(), NoRo
     Ok(())
 }
 
-/// The earlier of the best place so far and the place behind it, which has an event at this time, if any.
+/// The earlier of the best place so far and the place after it, which has an event at this time, if any.
 fn earlier(best: Option<(usize, i64)>, place: usize, time: Option<i64>) -> Option<(usize, i64)>
     ensures { (cursors : List Cursor) → IsBest cursors place best → time_at cursors place ≡ time → IsBest cursors (place + 1) result }
 {

@@ -48,7 +48,7 @@ impl<'a> Merger<'a> {
         }
     }
 
-    /// Adds a view behind the others, if fewer than 257 are held.
+    /// Adds a view after the others, if fewer than 257 are held.
     pub fn add(&mut self, view: AtomView<'a>) -> bool
         ensures room { IsTrue result ↔ (length self.old < MOST_VIEWS) }
         ensures added { IsTrue result → self.new ≡ self.old ++ view.entry.bytes.now ∷ [] }

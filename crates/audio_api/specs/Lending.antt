@@ -15,19 +15,19 @@ use Rattle.audio_api.specs.Inputs.{Inputs, with_samples}
 use Rattle.audio_api.specs.Outputs.{Outputs, with_block}
 use Rattle.audio_api.specs.Ports.{block_of, with_output}
 
--- the block s ends as the samples behind r
+-- the block s ends as the samples after r
 abbrev pub LendsSamples : MutBor (List Sample) → MutBor (List Sample) → Fml
 LendsSamples s r = Lends block_row (Array sample_row 0) s r (refilled s.now)
 
--- the inputs s end with the block behind r at port i
+-- the inputs s end with the block after r at port i
 abbrev pub LendsInput : MutBor Inputs → ℕ → MutBor (List Sample) → Fml
 LendsInput s i r = Lends ins_row block_row s r (with_samples s.now i)
 
--- the outputs s end with the block behind r at this place
+-- the outputs s end with the block after r at this place
 abbrev pub LendsPlace : MutBor Outputs → ℕ → MutBor (List Sample) → Fml
 LendsPlace s place r = Lends outs_row block_row s r (with_block s.now place)
 
--- the ports s end with the samples behind r at output port i
+-- the ports s end with the samples after r at output port i
 abbrev pub LendsOutput : MutBor Ports → ℕ → MutBor (List Sample) → Fml
 LendsOutput s i r =
     Lends (ports_row (record { mir = named 0; lft = [] })) (Array sample_row 0) s r

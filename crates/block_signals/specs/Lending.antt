@@ -19,6 +19,6 @@ now_at outlets inst = (outlet_at outlets inst).now
 abbrev pub with_now : Outlets → ℕ → Left → Outlets
 with_now outlets inst outs = record outlets { each = with_item outlets.each inst (record (outlet_at outlets inst) { now = outs }) }
 
--- the outputs s end with those behind r as an instance's of this block
+-- the outputs s end with those after r as an instance's of this block
 abbrev pub LendsNow : MutBor Outlets → ℕ → MutBor Left → Fml
 LendsNow s inst r = Lends outlets_row outs_row s r (with_now s.now inst)

@@ -41,7 +41,7 @@ module _ {Y : Type 0} (marks before after : List (ℕ × Y)) (mark : ℕ × Y) (
   long : length marks ≡ length before + length (mark ∷ after)
   long = ap length e ∙ length-append before (mark ∷ after)
 
-  -- tickets before a place are lower, and tickets behind it higher
+  -- tickets before a place are lower, and tickets after it higher
   pub before_lower : All (λ x. x.0 < mark.0) before
   before_lower k d lt =
       let there : get_or marks k d ≡ get_or before k d = ap (λ l. get_or l k d) e ∙ get_or_append_left before (mark ∷ after) d k lt in

@@ -14,7 +14,7 @@ reaches-leads cables to from (via ∷ rest) way =
     let parts = and_parts (feeds cables from via) (leads cables via rest to) way in
     feeds_some-from cables (reaches cables to (suc (length rest))) from via parts.0 (reaches-leads cables to via rest parts.1)
 
--- no list that leads on over as many cables is below the least instance with the least list behind it
+-- no list that leads on over as many cables is below the least instance with the least list after it
 pub least-at-most : (cables : List CableLine) (to from via : ℕ) (rest : List ℕ) → ((other : ℕ) → other < via → feeds cables from other ≡ true → reaches cables to (suc (length rest)) other ≡ true → ⊥) → IsLeastFrom cables to via rest → (other : List ℕ) → length other ≡ suc (length rest) → leads cables from other to ≡ true → IsAtMost (via ∷ rest) other
 least-at-most cables to from via rest none least [] long way = absurd (omega arith)
 least-at-most cables to from via rest none least (x ∷ xs) long way =

@@ -74,7 +74,7 @@ mark-all cables targets count k row whole before =
     let Marks : List CableLine → Type 0 = λ cs. IsRowOf (feeds_some cs targets) count row in
     subst Marks (take_all k cables whole) before
 
--- the row behind row n
+-- the row after row n
 pub row-next : (cables : List CableLine) (to count n : ℕ) (before row : List Bool) → AreWithin count cables → IsRowOf (reaches cables to n) count before → IsRowOf (feeds_some cables (is_marked before)) (length before) row → IsRowOf (reaches cables to (suc n)) count row
 row-next cables to count n before row within is next =
     let all = is.all in
@@ -118,7 +118,7 @@ step-there cables to count n from rows row within are there same reached =
     let number : n + 1 ≡ suc n = omega arith in
     feeds_some-same cables count (is_marked row) (reaches cables to n) from within is.same ∙ subst Reached number reached
 
--- the row behind one of the rows
+-- the row after one of the rows
 pub row-behind : (cables : List CableLine) (to count n : ℕ) (rows : List (List Bool)) (before row : List Bool) → AreWithin count cables → AreRows cables to count rows → n < length rows → before ≡ get_or rows n [] → IsRowOf (feeds_some cables (is_marked before)) (length before) row → IsRowOf (reaches cables to (n + 1)) count row
 row-behind cables to count n rows before row within are there same next =
     let Before : List Bool → Type 0 = λ bs. IsRowOf (reaches cables to n) count bs in
@@ -126,7 +126,7 @@ row-behind cables to count n rows before row within are there same next =
     let number : n + 1 ≡ suc n = omega arith in
     subst Row (sym number) (row-next cables to count n before row within (subst Before (sym same) (are n there)) next)
 
--- the rows so far, where the one behind them marks the instance
+-- the rows so far, where the one after them marks the instance
 pub searched : (cables : List CableLine) (inst count n : ℕ) (rows : List (List Bool)) (row : List Bool) → inst < count → length rows ≡ n → 0 < n → AreRows cables inst count rows → IsApartBelow cables inst n → IsRowOf (reaches cables inst n) count row → is_marked row inst ≡ true → IsSearched cables inst count rows
 searched cables inst count n rows row there long some are apart is marked =
     let Apart : ℕ → Type 0 = λ m. IsApartBelow cables inst m in

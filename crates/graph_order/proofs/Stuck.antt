@@ -37,7 +37,7 @@ pub record IsTrail (cables : List CableLine) (count : ℕ) (placed : List ℕ) (
   pub there : (q : ℕ) → list_any (eqb q) (head ∷ tail) ≡ true → q < count
   pub ahead : (q : ℕ) → list_any (eqb q) (head ∷ tail) ≡ true → IsAhead cables head q
 
--- one that feeds an instance is behind all that are ahead of this
+-- one that feeds an instance is after all that are ahead of this
 pub ahead-on : (cables : List CableLine) (source head q : ℕ) → feeds cables source head ≡ true → IsAhead cables head q → (rest : List ℕ) × (leads cables source rest q ≡ true)
 ahead-on cables source head q fed (inl same) = ([], let Fed : ℕ → Type 0 = λ n. feeds cables source n ≡ true in subst Fed same fed)
 ahead-on cables source head q fed (inr way) = (head ∷ way.0, and_from (feeds cables source head) (leads cables head way.0 q) fed way.1)

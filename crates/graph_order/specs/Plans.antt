@@ -22,7 +22,7 @@ pub record IsNext (cables : List CableLine) (count : ℕ) (placed : List ℕ) (i
   pub ready : is_ready cables placed inst ≡ true
   pub least : (other : ℕ) → other < inst → is_ready cables placed other ≡ false
 
--- at each place stands the least instance that is ready behind those before it
+-- at each place stands the least instance that is ready after those before it
 pub record IsLeastFirst (cables : List CableLine) (count : ℕ) (order : List ℕ) : Type 0 where
   pub all : length order ≡ count
   pub next : (k : ℕ) → k < count → IsNext cables count (take k order) (slice_index order k)
@@ -34,7 +34,7 @@ pub record IsPlacing (count : ℕ) (plan : Plan) : Type 0 where
   pub placed : (k : ℕ) → k < count → (slice_index plan.order k < count) × (slice_index plan.place (slice_index plan.order k) ≡ k)
   pub ordered : (inst : ℕ) → inst < count → (slice_index plan.place inst < count) × (slice_index plan.order (slice_index plan.place inst) ≡ inst)
 
--- each instance stands once, behind all that feed it
+-- each instance stands once, after all that feed it
 pub record IsLawful (cables : List CableLine) (count : ℕ) (plan : Plan) : Type 0 where
   pub placing : IsPlacing count plan
   pub fed : All (λ (cable : CableLine). cable.delayed ≡ false → slice_index plan.place cable.source < slice_index plan.place cable.target) cables

@@ -11,7 +11,7 @@ use std::alloc::Global;
 /// The order in which the instances of a session run within a block.
 #[derive(Drop)]
 pub struct Plan {
-    /// The instances, each once. Each stands behind those that feed it by cables without delay.
+    /// The instances, each once. Each stands after those that feed it by cables without delay.
     pub order: Items<u32>,
     /// The place of each instance in that order.
     pub place: Items<u32>,

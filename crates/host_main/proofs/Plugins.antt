@@ -16,7 +16,7 @@ use Rattle.host_main.specs.PluginRefusals.{IsUriRefusal, IsPluginRefusal}
 use Rattle.host_main.specs.declared.checking.refusal.CheckRefusal.{CheckRefusal}
 use Rattle.host_main.specs.declared.checking.refusal.CheckRefusal.TheVariants.{Load, Undeclared, WriteFailed}
 
--- what stands before a place, the element there, and what stands behind it
+-- what stands before a place, the element there, and what stands after it
 parted : {X : Type 0} (xs : List X) (i : ℕ) (x : X) → i < length xs → x ≡ get_or xs i x → xs ≡ take i xs ++ x ∷ drop (suc i) xs
 parted xs i x there is =
     sym (take-append-drop i xs) ∙ ap (λ back. take i xs ++ back) (drop-cons xs i x there ∙ ap (λ y. y ∷ drop (suc i) xs) (sym is))

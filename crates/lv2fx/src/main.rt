@@ -26,7 +26,7 @@ fn main(rt: HostRuntime) -> ExitCode {
     ExitCode::from(status)
 }
 
-// The words behind the program's name. Words that aren't all UTF-8 are words of no form.
+// The words after the program's name. Words that aren't all UTF-8 are words of no form.
 fn words<R: Env + AllocGlobal>(rt: &R) -> Result<Vec<Text>, NoMemory> {
     let mut words = Vec::new(rt.alloc());
     match env::args(rt) {

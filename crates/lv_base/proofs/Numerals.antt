@@ -11,7 +11,7 @@ use Rattle.lv_base.proofs.Caps.{in_range-capped}
 abbrev pub numeral : Bool → List ℕ → Option (List ℕ) → Option (List ℕ) → Numeral
 numeral negative whole fraction exponent = record { negative = negative; whole = whole; fraction = fraction; exponent = exponent }
 
--- a part that may be missing, behind a reference
+-- a part that may be missing, after a reference
 pub or_empty-copied : (part : Option (Bor (List ℕ))) (none : Bor (List ℕ)) → none.now ≡ [] → (unwrap_or part none).now ≡ or_empty (option_copied part)
 or_empty-copied None none e = e
 or_empty-copied (Some text) none e = refl

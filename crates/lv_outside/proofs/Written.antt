@@ -32,7 +32,7 @@ pub put_at_place : (path bytes : List ℕ) (files : List (List ℕ × List ℕ))
     → slice_set files place (path, bytes) ≡ put path bytes files
 put_at_place path bytes files place found = grind (arith, common_steps, set_first path bytes files)
 
--- a write behind all files
+-- a write after all files
 pub put_behind : (path bytes : List ℕ) (files : List (List ℕ × List ℕ)) → place_in files path ≡ None
     → files ++ (path, bytes) ∷ [] ≡ put path bytes files
 put_behind path bytes files none = grind (arith, common_steps, push_none path bytes files)

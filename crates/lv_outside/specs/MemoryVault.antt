@@ -52,7 +52,7 @@ read_answer vault path most = if is_vault_due vault then Failed else found (file
 abbrev pub after_read : MemVaultState → Fetch → MemVaultState
 after_read vault answer = record vault { calls = next_count vault.calls; counts = counted vault.counts answer }
 
--- the files after a write: in the place of the first at the path, or else behind all
+-- the files after a write: in the place of the first at the path, or else after all
 abbrev pub put : List ℕ → List ℕ → List (List ℕ × List ℕ) → List (List ℕ × List ℕ)
 put path bytes [] = (path, bytes) ∷ []
 put path bytes (file ∷ files) = if bytes_eq path file.0 then (path, bytes) ∷ files else file ∷ put path bytes files

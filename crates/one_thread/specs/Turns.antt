@@ -90,7 +90,7 @@ turn_between run p otherwise = unwrap_or (find (can_go run p) (round_from (shape
 
 -- ---- all turns
 
--- where audio is: in a block, or before its first or behind its last; between two blocks; or it has stopped
+-- where audio is: in a block, or before its first or after its last; between two blocks; or it has stopped
 pub data Phase : Type 0 where
   in_block : Phase
   between : Phase

@@ -68,6 +68,6 @@ message_text urids type properties =
     else if type == put_type then codes " put" ++ keyed_text body_key (all_text urids) properties
     else codes " other"
 
--- of a whole atom, whose object stands behind its header of 8 bytes
+-- of a whole atom, whose object stands after its header of 8 bytes
 abbrev pub notice_text : List (List ℕ) → List ℕ → List ℕ
 notice_text urids atom = let body = drop 8 atom in message_text urids (number_at body 4) (properties_of body)

@@ -28,7 +28,7 @@ use Rattle.graph_order.specs.declared.setup.Setup.{Setup}
 use Rattle.session_play.specs.Setup.{ports_of}
 use Rattle.session_play.specs.Value.{Moment, Play, body_in}
 
--- a count behind its name
+-- a count after its name
 abbrev pub counted : List ℕ → ℕ → List ℕ
 counted name number = name ++ decimal number
 

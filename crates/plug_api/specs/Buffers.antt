@@ -28,7 +28,7 @@ empty_forge room = record { room = room; bytes = []; levels = []; waits = false 
 abbrev pub begun_forge : ℕ → Forged
 begun_forge room = record { room = room; bytes = opening 10 0 0; levels = record { holds = Events; at = 0 } ∷ []; waits = false }
 
--- the bytes of the events of a sequence, which stand behind its header, its unit and its padding
+-- the bytes of the events of a sequence, which stand after its header, its unit and its padding
 abbrev pub event_bytes : Forged → List ℕ
 event_bytes forge = drop 16 forge.bytes
 

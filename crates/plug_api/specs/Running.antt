@@ -12,7 +12,7 @@ use Rattle.plug_api.specs.Roles.{has_sound, has_control, has_atom}
 use Rattle.plug_api.specs.Sequences.{AreEventBytes}
 use Rattle.plug_api.specs.Ports.{ports_of, places_of, outs_of, inputs_of, room_of}
 
--- the outputs with a signal at the place of port i; events are put behind those that stand there
+-- the outputs with a signal at the place of port i; events are put after those that stand there
 abbrev pub with_signal : List ℕ → Left → ℕ → Signal → Left
 with_signal places outs i (sound block) = with_block outs (slice_index places i) block
 with_signal places outs i (control value) = with_value outs (slice_index places i) value

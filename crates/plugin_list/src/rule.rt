@@ -6,7 +6,7 @@ use plugin_decl::DeclFault;
 use triple_list::push_term;
 use triple_store::Term;
 
-/// Adds the rule that a fault names: a word, and where there is one the place, the index or the term behind it, as `gap 1`.
+/// Adds the rule that a fault names: a word, and where there is one the place, the index or the term after it, as `gap 1`.
 ///
 /// Of a feature or an option an IRI stands as it is, and any other term as in a list of triples. No line feed follows. Want of
 /// memory is no rule, and has no text. After a refusal `into` may hold a part of the text.

@@ -116,7 +116,7 @@ module _ (s : Shape) (inst actor call : ℕ) where
       (lasts_at x.kind x.actor x.b x.a (lasting inst h) k (λ same. goes_on (at_head its_end x later same)))
       (λ c. goes_on (in_tail its_end x later c))
 
--- the histories of two lists behind one another
+-- the histories of two lists after one another
 pub after_append : (s : Shape) (h : History) (first second : List Entry) → after s h (first ++ second) ≡ after s (after s h first) second
 after_append s h [] second = refl
 after_append s h (x ∷ first) second = after_append s (done_in s h x) first second

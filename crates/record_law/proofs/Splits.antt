@@ -20,7 +20,7 @@ pub no_place : {X : Type 0} (before later : List X) (x : X) → [] ≡ before ++
 no_place [] later x e = let no : 0 ≡ suc (length later) = ap length e in omega (arith, no)
 no_place (y ∷ before) later x e = let no : 0 ≡ suc (length (before ++ x ∷ later)) = ap length e in omega (arith, no)
 
--- two places behind equally many are one
+-- two places after equally many are one
 pub record SamePlace {X : Type 0} (before also : List X) (x y : X) (later other : List X) : Type 0 where
   pub before_same : before ≡ also
   pub here_same : x ≡ y

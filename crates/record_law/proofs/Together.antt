@@ -95,7 +95,7 @@ module _ (e : Entry) (other : is_kind Take e ≡ false) where
       may_be_false (same_entry (take_of Control ring) e) m (leftovers ring ∷ []) (no_take Control ring)
       ∙ sym (may_be_false (same_entry (take_of Control ring) e) n (leftovers ring ∷ []) (no_take Control ring))
 
-  follow_same : (s : Shape) (h : History) (m n : Message) (tasks : List Task) → follow s h m tasks e ≡ follow s h n tasks e
+  pub follow_same : (s : Shape) (h : History) (m n : Message) (tasks : List Task) → follow s h m tasks e ≡ follow s h n tasks e
   follow_same s h m n [] = refl
   follow_same s h m n (task ∷ tasks) = ap₂ (λ it rest. then_left it tasks rest) (move_same s h m n task) (follow_same s h m n tasks)
 

@@ -74,13 +74,13 @@ none_follow s h taken (task ∷ tasks) e k =
     by passes left rest later = later
     by (goes message first) left rest later = none_append first tasks left rest
 
-none_left : (s : Shape) (actor : Actor) (h : History) → no_takes (left_after s actor h) ≡ true
+pub none_left : (s : Shape) (actor : Actor) (h : History) → no_takes (left_after s actor h) ≡ true
 none_left s actor [] = none_tasks s actor
 none_left s actor (x ∷ h) = none_follow s h x.about (left_after s actor h) x.entry (none_left s actor h)
 
 -- ---- a take is about what it brings
 
-follow_brings : (s : Shape) (h : History) (taken : Message) (tasks : List Task) (e : Entry) → is_kind Take e ≡ true → no_takes tasks ≡ true
+pub follow_brings : (s : Shape) (h : History) (taken : Message) (tasks : List Task) (e : Entry) → is_kind Take e ≡ true → no_takes tasks ≡ true
     → is_some (follow s h taken tasks e) ≡ true → about_in (follow s h taken tasks e) ≡ taken
 follow_brings s h taken [] e take k some = absurd (true≢false (sym some))
 follow_brings s h taken (task ∷ tasks) e take k some =

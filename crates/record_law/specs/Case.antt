@@ -22,7 +22,7 @@ shape_of blocks cells workers plan insts actions =
 
 -- ---- altered copies
 
--- A line is left out, stands twice, or is swapped with the next; another stands in its place; or lines from one to another are moved behind
+-- A line is left out, stands twice, or is swapped with the next; another stands in its place; or lines from one to another are moved after
 -- a later one. The first entry is on line 2.
 pub data Edit : Type 0 where
   drop_line : (line : ℕ) → Edit
@@ -31,7 +31,7 @@ pub data Edit : Type 0 where
   put_line : (line : ℕ) → Entry → Edit
   move_lines : (first last behind : ℕ) → Edit
 
--- the entries before a line, on it, and behind it
+-- the entries before a line, on it, and after it
 abbrev pub before : ℕ → List Entry → List Entry
 before line steps = take (line - 2) steps
 

@@ -53,7 +53,7 @@ abbrev pub behind : History → List Step → History
 behind h [] = h
 behind h (x ∷ later) = behind (x ∷ h) later
 
--- two pieces behind one another are one
+-- two pieces after one another are one
 abbrev pub PiecesCompose : Type 0
 PiecesCompose = (s : Shape) (h : History) (tasks between left : List Task) (first second : List Step)
     → Piece s h tasks first between → Piece s (behind h first) between second left → Piece s h tasks (first ++ second) left

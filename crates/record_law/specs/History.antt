@@ -50,7 +50,7 @@ next_on ring h = message_at (sent_on ring h) (count Take ring h)
 abbrev pub own : Actor → History → History
 own actor h = filter (λ (x : Step). is_by actor x.entry) h
 
--- those of its steps behind which it has gone on
+-- those of its steps after which it has gone on
 abbrev pub settled : Actor → History → History
 settled actor h = drop 1 (own actor h)
 

@@ -13,7 +13,7 @@ use Rattle.step_law.specs.Form.{audio_calls, worker_calls}
 abbrev pub may_overlap : Call → Call → Bool
 may_overlap call other = (audio_calls call && worker_calls other) || (worker_calls call && audio_calls other)
 
--- a call of an actor on an instance has begun in these entries, and its end doesn't stand behind
+-- a call of an actor on an instance has begun in these entries, and its end doesn't stand after
 pub record Lasts (actor : Actor) (call : Call) (inst : ℕ) (before : List Entry) : Type 0 where
   pub earlier : List Entry
   pub later : List Entry

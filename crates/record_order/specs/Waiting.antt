@@ -11,7 +11,7 @@ abbrev pub first_of : List Message → Option Message
 first_of [] = None
 first_of (message ∷ later) = Some message
 
--- one message more, behind all others
+-- one message more, after all others
 abbrev pub with_message : Waiting → Message → Waiting
 with_message queue message = record queue { messages = queue.messages ++ message ∷ [] }
 

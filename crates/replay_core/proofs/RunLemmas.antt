@@ -31,7 +31,7 @@ use Rattle.replay_core.proofs.EachLemmas.{each-more}
 pub put-set : {X : Type 0} (xs : List X) (i : ℕ) (x : X) → i < length xs → put xs i x ≡ set xs i x
 put-set xs i x h = sym (set_split xs i x h)
 
--- putting an element behind the last one adds it
+-- putting an element after the last one adds it
 pub put-end : {X : Type 0} (xs : List X) (x : X) → put xs (length xs) x ≡ xs ++ x ∷ []
 put-end [] x = refl
 put-end (y ∷ ys) x = ap (λ rest. y ∷ rest) (put-end ys x)

@@ -51,7 +51,7 @@ refused ring second steps =
 abbrev pub events : List Entry → ℕ
 events steps = count_by (λ e. is_event e.kind) steps
 
--- a count behind its name
+-- a count after its name
 abbrev pub counted : List ℕ → ℕ → List ℕ
 counted name count = name ++ decimal count
 

@@ -6,6 +6,6 @@ pub record Jobs : Type 0 where
   pub cells : ℕ
   pub jobs : List (List ℕ)
 
--- the queue with one job more, behind all others
+-- the queue with one job more, after all others
 abbrev pub with_job : Jobs → List ℕ → Jobs
 with_job queue job = record queue { jobs = queue.jobs ++ job ∷ [] }

@@ -37,7 +37,7 @@ impl LocalJobs {
         Ok(LocalJobs { cells, jobs })
     }
 
-    /// Adds a job behind all others. It is handed back exactly where there are as many as there is room for, and then all is as before.
+    /// Adds a job after all others. It is handed back exactly where there are as many as there is room for, and then all is as before.
     /// It takes no memory.
     pub fn add(&mut self, job: Parcel) -> Result<(), Parcel>
         ensures full { IsErr result ↔ (length self.old.jobs ≡ self.old.cells) }

@@ -146,7 +146,7 @@ has-rows v m path number names first rows h named e all = record {
   all = subst (λ ns. AddAll v (place number path) ns first rows) e (all-earlier v m (place number path) names first rows h all);
 }
 
--- the manifest was read, behind no rows, and names these files: what comes of the others is what comes of the bundle
+-- the manifest was read, after no rows, and names these files: what comes of the others is what comes of the bundle
 pub record IsRead (v m : VaultState) (path : List ℕ) (number : ℕ) (names : List (List ℕ)) (none first : List Triple) : Type 0 where
   pub later : IsLater v m
   pub begins : none ≡ []

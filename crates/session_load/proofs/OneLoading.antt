@@ -42,7 +42,7 @@ told Has (turtle.Depth at) some h = (fault (too_deep at), h, refl)
 told Has (turtle.StoreFull at) some h = (fault (full_store at), h, refl)
 told Has turtle.NoMemory some h = absurd (some refl)
 
--- Why a known file can't be read behind some rows. None of these is want of memory or a failed read.
+-- Why a known file can't be read after some rows. None of these is want of memory or a failed read.
 data Stops (v : VaultState) (at : Place) (name : List ℕ) (before : List Triple) (why : LoadFault) : Type 0 where
   gone : v.file (path_of at.path name) ≡ None → why ≡ Missing (path_of at.path name) → Stops v at name before why
   large : (bytes : List ℕ) → v.file (path_of at.path name) ≡ Some bytes → MOST_FILE_BYTES < length bytes → why ≡ TooLong (path_of at.path name) → Stops v at name before why
@@ -108,7 +108,7 @@ stops_not_adds v at name before rows why known (unread bytes here few o read cau
 
 -- ---- files one after another
 
--- a file ends the loading with its fault, or it goes on behind the file's rows
+-- a file ends the loading with its fault, or it goes on after the file's rows
 abbrev Goes : VaultState → Place → List ℕ → List Triple → (List Triple → Answer → Type 0) → Answer → Type 0
 Goes v at name before On a =
     ((why : LoadFault) × (a ≡ Err why) × Stops v at name before why) ⊎ ((rows : List Triple) × Adds v at name before rows × On rows a)
@@ -147,7 +147,7 @@ all_read : (v : VaultState) (at : Place) (names : List (List ℕ)) (before rows 
 all_read v at [] before rows read = ap Ok read
 all_read v at (name ∷ names) before rows read = inr (read.0, read.1, all_read v at names read.0 rows read.2)
 
--- files that were loaded lead to what comes behind them
+-- files that were loaded lead to what comes after them
 behind : (v : VaultState) (at : Place) (front back : List (List ℕ)) (before between : List Triple) (a : Answer)
     → AddAll v at front before between → Ends v at back between a → Ends v at (front ++ back) before a
 behind v at [] back before between a e x = subst (λ (rows : List Triple). Ends v at back rows a) e x

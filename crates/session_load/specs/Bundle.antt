@@ -32,7 +32,7 @@ pub record Place : Type 0 where
   pub number : ℕ
   pub path : List ℕ
 
--- how bytes are read as a file of the bundle, behind some rows
+-- how bytes are read as a file of the bundle, after some rows
 abbrev pub Reads : Place → List ℕ → List Triple → List ℕ → Outcome → Type 0
 Reads at name before bytes = IsReadAs (beginning (file_iri at.number name) before) bytes
 
@@ -64,7 +64,7 @@ IsMisread path Has (Turtle at fault) = (at ≡ path) × (fault ≢ turtle.NoMemo
 IsMisread path Has NoMemory = Unit {0}
 IsMisread path Has other = ⊥
 
--- why a file of the bundle can't be read behind some rows
+-- why a file of the bundle can't be read after some rows
 abbrev pub IsRefused : VaultState → VaultState → Place → List ℕ → List Triple → LoadFault → Type 0
 IsRefused v v' at name before (Missing path) =
     (path ≡ path_of at.path name) × Rose v.absences v'.absences × (IsTrue v.tells → v.file path ≡ None)

@@ -42,7 +42,7 @@ inside name = if is_inside name then Some name else None
 abbrev pub is_bare : List ℕ → Bool
 is_bare iri = not (list_any (λ c. c == 63) iri) && not (list_any (λ c. c == 35) iri)
 
--- The file that an IRI names in the folder with this IRI, if it names one: by what stands behind the folder's IRI, its escapes
+-- The file that an IRI names in the folder with this IRI, if it names one: by what stands after the folder's IRI, its escapes
 -- decoded (RFC 3986, 2.1).
 unfoldable pub file_named : List ℕ → List ℕ → Option (List ℕ)
 file_named folder iri =
@@ -68,7 +68,7 @@ file_of plugins folder row = if list_any (same_term row.s) plugins then file_by 
 abbrev pub file_at : List ℕ → List Triple → Triple → Option (List ℕ)
 file_at folder rows row = if is_a rows row.s Lv2Plugin then file_by folder row.o else None
 
--- a name behind those before it, unless it is one of them
+-- a name after those before it, unless it is one of them
 abbrev pub joined : List (List ℕ) → Option (List ℕ) → List (List ℕ)
 joined before None = before
 joined before (Some name) = if list_any (bytes_eq name) before then before else before ++ name ∷ []

@@ -23,7 +23,7 @@ pub const MOST_FILE_BYTES: u64 = 16_777_216;
 /// names, in order of its triples, each once, all in one graph.
 ///
 /// A triple `s rdfs:seeAlso iri` of the manifest names a file where the manifest also says that `s` is an `lv2:Plugin`, and where
-/// the IRI is that of a file within the bundle: it has neither a query nor a fragment, and what stands in it behind the bundle's
+/// the IRI is that of a file within the bundle: it has neither a query nor a fragment, and what stands in it after the bundle's
 /// folder is, its escapes decoded (RFC 3986, section 2.1), UTF-8 without a zero byte, and a path of which no segment is empty, `.`
 /// or `..`. Every other triple is passed over, so that no file outside the folder is read. What the files so named name themselves
 /// isn't followed, and the manifest isn't read again.

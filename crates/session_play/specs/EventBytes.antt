@@ -13,7 +13,7 @@ first_event bytes = record {
   value = plain (other (kind_at bytes 8) (slice_range bytes 16 (16 + size_at bytes 8)));
 }
 
--- the bytes behind it
+-- the bytes after it
 abbrev pub behind_event : List ℕ → List ℕ
 behind_event bytes = drop (16 + padded (size_at bytes 8)) bytes
 

@@ -84,7 +84,7 @@ properties_within zero bytes = []
 properties_within (suc more) bytes =
     let later = properties_within more (drop (16 + padded (size_at bytes 8)) bytes) in if nat_lt (length bytes) 16 then [] else first_property bytes ∷ later
 
--- those of an object with this body, which stand behind its id and its type
+-- those of an object with this body, which stand after its id and its type
 abbrev pub properties_of : List ℕ → List Property
 properties_of body = properties_within (length body) (drop 8 body)
 

@@ -134,7 +134,7 @@ is_patch_port setup inst port = option_map_or (nat_eq port.index) (patch_port se
 abbrev pub messages_in : {F B : Type 0} → Setup → List (List ℕ) → Play F B → ℕ → Port → List Event
 messages_in setup urids p inst port = let taken = messages_taken setup urids (in_block p) inst in if is_patch_port setup inst port then taken else []
 
--- messages first, then the events of each cable, all in stable order of time, as far as there is room behind the sequence's own 16 bytes
+-- messages first, then the events of each cable, all in stable order of time, as far as there is room after the sequence's own 16 bytes
 abbrev pub atom_input : {F B : Type 0} → Setup → List (List ℕ) → Play F B → ℕ → Port → List Event
 atom_input setup urids p inst port =
     merged (port.room - 16) (messages_in setup urids p inst port ∷ map (λ it. events_at (events_in it)) (coming setup p inst port))

@@ -70,7 +70,7 @@ latest-bounds a b = ⊎_elim
     (λ t. let e = ap (λ v. order (cond v b a)) t.0 in (omega (arith, e), omega (arith, e, t.1)))
     (leb_tells (order a) (order b))
 
--- no section stands behind the latest one
+-- no section stands after the latest one
 sections_within : (from : Section) (ss : List Section) (k : ℕ) → order (fold latest from ss) ≤ k → (order from ≤ k) × All (λ section. order section ≤ k) ss
 sections_within from [] k h = (h, All-nil (λ section. order section ≤ k))
 sections_within from (section ∷ ss) k h =

@@ -13,7 +13,7 @@ low byte h = grind (arith, nat_tests)
 same_first : (x : ℕ) (first : ℕ) → Some x ≡ Some first → x ≡ first
 same_first x first e = cc
 
--- a line may be cut behind its first blank
+-- a line may be cut after its first blank
 pub blank_boundary : (line : List ℕ) (first : ℕ) → IsUtf8 line → slice_get line 0 ≡ Some first → is_blank first ≡ true → IsCharBoundary line 1
 blank_boundary [] first text e h = absurd (cc)
 blank_boundary (x ∷ xs) first text e h =

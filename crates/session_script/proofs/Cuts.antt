@@ -62,7 +62,7 @@ nonempty line empty e h = grind (arith, nat_tests)
 pub front : (line : List ℕ) (n : ℕ) → take (n - 0) (drop 0 line) ≡ take n line
 front line n = let e : n - 0 ≡ n = omega arith in ap (λ m. take m line) e
 
--- a line may be cut behind its first word
+-- a line may be cut after its first word
 pub word_boundary : (line : List ℕ) (n : ℕ) → n ≡ position_or_len is_blank line → IsCharBoundary line n
 word_boundary line n e =
     let k : ℕ = position_or_len is_blank line in

@@ -26,11 +26,11 @@ uri_at insts k = option_map_or (λ (one : Inst). one.uri) (slice_get insts k) []
 abbrev pub is_control : List Inst → List ℕ → List ℕ → Bool
 is_control insts name symbol = bytes_eq symbol (control_of (uri_at insts (place insts name)))
 
--- the target is an amplifier that stands behind the source
+-- the target is an amplifier that stands after the source
 abbrev pub stands_behind : List Inst → List ℕ → List ℕ → Bool
 stands_behind insts source target = nat_lt (place insts source) (place insts target) && bytes_eq (uri_at insts (place insts target)) amp_uri
 
--- from the `out` of an instance to the `in` of an amplifier that stands behind it
+-- from the `out` of an instance to the `in` of an amplifier that stands after it
 abbrev pub leads_on : List Inst → (source output target input : List ℕ) → Bool
 leads_on insts source output target input = bytes_eq output (codes "out") && bytes_eq input (codes "in") && stands_behind insts source target
 

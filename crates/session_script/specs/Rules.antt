@@ -82,7 +82,7 @@ is_unknown before unknown = true
 is_unknown before header = not (order before.section == 0)
 is_unknown before line = false
 
--- a line that belongs behind this one stands above it
+-- a line that belongs after this one stands above it
 abbrev pub is_late : Draft → Line → Bool
 is_late before line = option_map_or (λ section. nat_lt (order section) (order before.section)) (section_of line) false
 

@@ -14,7 +14,7 @@ pub enum ScriptRule {
     Head,
     /// The first word or the action is unknown.
     Word,
-    /// A line stands above this one that belongs behind it.
+    /// A line stands above this one that belongs after it.
     Order,
     /// A setting stands again.
     Twice,

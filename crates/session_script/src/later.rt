@@ -81,14 +81,14 @@ fn is_stock_uri(uri: &str) -> bool
     uri == CONST_URI || uri == AMP_URI
 }
 
-/// Whether an `out` leads to the `in` of an amplifier that stands behind it.
+/// Whether an `out` leads to the `in` of an amplifier that stands after it.
 fn leads_on(insts: &[Inst], source: &str, output: &str, target: &str, input: &str) -> bool
     ensures { result ≡ spec.leads_on insts.now source.now output.now target.now input.now }
 {
     output == "out" && input == "in" && stands_behind(insts, source, target)
 }
 
-/// Whether the target is an amplifier that stands behind the source.
+/// Whether the target is an amplifier that stands after the source.
 fn stands_behind(insts: &[Inst], source: &str, target: &str) -> bool
     ensures { result ≡ spec.stands_behind insts.now source.now target.now }
 {

@@ -7,7 +7,7 @@ use Rattle.triple_store.specs.Triples.{same_term}
 use Rattle.triple_store.specs.declared.term.Term.{Term}
 use Rattle.state_file.specs.Rules.{each_once}
 
--- each of these keys is new where it stands behind those that were seen
+-- each of these keys is new where it stands after those that were seen
 abbrev pub are_new : List Term → List Term → Bool
 are_new seen [] = true
 are_new seen (key ∷ keys) = not (list_any (same_term key) seen) && are_new (seen ++ key ∷ []) keys

@@ -56,7 +56,7 @@ plugin_text uri = codes "\" ;\n\tfx:plugin <" ++ (uri ++ codes "> ;\n\tstate:sta
 abbrev pub head_text : ℕ → Saved → List ℕ
 head_text number saved = name_text number saved.name ++ plugin_text saved.uri
 
--- a state, behind an empty line
+-- a state, after an empty line
 abbrev pub saved_text : List (List ℕ) → ℕ → Saved → List ℕ
 saved_text urids number saved =
     head_text number saved ++ (properties_text urids saved.props (in_order urids (map (λ row. row.0) saved.props)) ++ codes "\t] .\n")

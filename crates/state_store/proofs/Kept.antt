@@ -1,4 +1,4 @@
--- A value's bytes stand behind those of the slots before it, and a value that is put in its place moves none of the others.
+-- A value's bytes stand after those of the slots before it, and a value that is put in its place moves none of the others.
 use Rattle.std.proofs.Common.{◌≡◌, ℕ, zero, suc, ◌+◌, ◌-◌, ◌<◌, ◌≤◌, ◌==◌, nat_lt, nat_le, Bool, true, false, cond, ◌&&◌, List, [], ◌∷◌, ◌++◌, length, take, drop, set, insert, Option, None, Some, is_none, unwrap_or, IsTrue, refl, sym, ap, subst, ◌∙◌, arith, ltb-true, ltb-false, lt-ltb, le-ltb, eq-eqb, ne_eqb, eqb-true, le-leb, leb-true, take_at, drop_at, take-add, take-take, drop-drop, length-take-le, length-drop, length-append, append_assoc}
 use Rattle.std.proofs.Math.Seq.{take-append-add}
 use Rattle.std.proofs.lemmas.Bool.{and_parts, eqb-false}
@@ -82,7 +82,7 @@ slots_insert (slot ∷ slots) new missing = by (nat_lt slot.key new.key) (slot.k
 
 -- ---- the bytes with those of one more
 
--- what stands behind a slot's bytes
+-- what stands after a slot's bytes
 bytes_behind : (slot : Slot) (slots : List Slot) (bytes : List ℕ) (place : Place) (value : List ℕ) → size_of (slot ∷ slots) ≤ length bytes
     → with_bytes bytes (behind 1 slot.size place) value ≡ take slot.size bytes ++ with_bytes (drop slot.size bytes) place value
 bytes_behind slot slots bytes place value packed =

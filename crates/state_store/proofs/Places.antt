@@ -9,7 +9,7 @@ use Rattle.state_store.specs.declared.slots.Place.{Place}
 from_here : {X : Type 0} (xs : List X) (i : ℕ) (x : X) → i < length xs → x ≡ get_or xs i x → drop i xs ≡ x ∷ drop (i + 1) xs
 from_here xs i x within here = drop-cons xs i x within ∙ (ap (λ y. y ∷ drop (suc i) xs) (sym here) ∙ ap (λ n. x ∷ drop n xs) (let e : suc i ≡ i + 1 = omega arith in e))
 
--- so many slots and bytes behind others
+-- so many slots and bytes after others
 behind_behind : (i o size : ℕ) (place : Place) → behind i o (behind 1 size place) ≡ behind (i + 1) (o + size) place
 behind_behind i o size place =
     let indexes : i + (1 + place.index) ≡ i + 1 + place.index = omega arith in

@@ -15,7 +15,7 @@ abbrev pub size_of : List Slot → ℕ
 size_of [] = 0
 size_of (slot ∷ slots) = slot.size + size_of slots
 
--- a place behind so many slots and bytes
+-- a place after so many slots and bytes
 abbrev pub behind : ℕ → ℕ → Place → Place
 behind slots bytes place = record { index = slots + place.index; offset = bytes + place.offset; former = place.former }
 

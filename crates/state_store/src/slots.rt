@@ -8,7 +8,7 @@ use crate::{MOST_BYTES, MOST_PROPERTIES, Prop};
 use lv_base::{Bytes, NoMemory};
 use std::alloc::Global;
 
-/// A property, whose bytes stand in a buffer behind those of the slots before it.
+/// A property, whose bytes stand in a buffer after those of the slots before it.
 #[derive(Clone, Copy)]
 pub struct Slot {
     pub key: u32,

@@ -4,7 +4,7 @@ use Rattle.std.proofs.lemmas.List.{take_more, drop-take, drop-append-le, take_al
 use Rattle.std.proofs.lemmas.List.Concat.{flat_map-append}
 use Rattle.triple_list.specs.Escapes.{escape_of, written, escaped}
 
--- one byte more is written behind the others
+-- one byte more is written after the others
 one_more : (text : List ℕ) (at : ℕ) → at < length text → escaped (take (at + 1) text) ≡ escaped (take at text) ++ written (get_or text at 0)
 one_more text at there =
     ap escaped (take_more text at 0 there)

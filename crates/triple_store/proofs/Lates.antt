@@ -16,7 +16,7 @@ use Rattle.triple_store.proofs.SameTerm.{same_term-true, same_term-itself}
 
 -- ---- one row more
 
--- rows behind rows
+-- rows after rows
 pub late-append : (before xs ys : List Triple) → late_behind before (xs ++ ys) ≡ late_behind before xs ++ late_behind (before ++ xs) ys
 late-append before [] ys = ap (λ b. late_behind b ys) (sym (append-nil before))
 late-append before (t ∷ xs) ys =
@@ -74,7 +74,7 @@ none_left : (n : ℕ) → drop {A = Triple} n [] ≡ []
 none_left zero = refl
 none_left (suc n) = refl
 
--- the late rows of a subject are those behind its first ones
+-- the late rows of a subject are those after its first ones
 pub late-about : (s : Term) (before rows : List Triple) → filter (is_about s) (late_behind before rows) ≡ drop (COMPARED - count_about s before) (filter (is_about s) rows)
 late-about s before [] = sym (none_left (COMPARED - count_about s before))
 late-about s before (t ∷ rows) = by (is_about s t) refl (late-about s (before ++ t ∷ []) rows)

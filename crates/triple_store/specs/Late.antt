@@ -10,11 +10,11 @@ use Rattle.triple_store.specs.declared.term.Triple.{Triple}
 abbrev pub count_about : Term → List Triple → ℕ
 count_about subject rows = length (filter (is_about subject) rows)
 
--- behind these rows a row is late: as many of them have its subject as are compared one by one
+-- after these rows a row is late: as many of them have its subject as are compared one by one
 abbrev pub is_late : List Triple → Triple → Bool
 is_late before t = nat_le COMPARED (count_about t.s before)
 
--- the late ones of some rows that stand behind others
+-- the late ones of some rows that stand after others
 abbrev pub late_behind : List Triple → List Triple → List Triple
 late_behind before [] = []
 late_behind before (t ∷ rows) = if is_late before t then t ∷ late_behind (before ++ t ∷ []) rows else late_behind (before ++ t ∷ []) rows

@@ -41,7 +41,7 @@ struct Recent {
 }
 
 impl Recent {
-    // Where a subject stands, if it is one of the two. Rows mostly come subject by subject, and behind a nested one the outer one
+    // Where a subject stands, if it is one of the two. Rows mostly come subject by subject, and after a nested one the outer one
     // goes on, so both are tried before any hash.
     fn place_of(&self, ends: &SubjectEnds, subject: &Term) -> Option<usize>
         ensures { IfSome result (λ at. slice_get (keys ends.now) at ≡ Some subject.now) }

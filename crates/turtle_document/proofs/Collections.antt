@@ -90,7 +90,7 @@ collected_node : (chain : Chain) (node : ℕ) → collected chain (terms.Blank n
 collected_node chains.Empty node = refl
 collected_node (chains.Nodes first last) node = refl
 
--- what comes behind an item
+-- what comes after an item
 abbrev rest_read : Items → ℕ → ℕ → ℕ → State → Result Read Fault
 rest_read items n node close after = items_of items n (Some node) close after >>= (λ rest. Ok (read (terms.Blank node) rest.state))
 

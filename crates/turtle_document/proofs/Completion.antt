@@ -173,7 +173,7 @@ tokens_of c x = tokens_by c.next c.outer x
 abbrev pub completed : (c : Config) → Partial c → State → Result State Fault
 completed c x st = completed_by c.next c.outer x st
 
--- A token leads on: the partial trees behind it are those before it that begin with it, and they leave the same.
+-- A token leads on: the partial trees after it are those before it that begin with it, and they leave the same.
 pub record Moves (c : Config) (t : Lexeme) (st : State) (d : Config) (after : State) : Type 0 where
   pub build : (y : Partial d) → (x : Partial c) × (tokens_of c x ≡ t ∷ tokens_of d y) × (completed c x st ≡ completed d y after)
   pub split : (x : Partial c) (rest : List Lexeme) → tokens_of c x ≡ t ∷ rest

@@ -12,7 +12,7 @@ use Rattle.turtle_document.specs.declared.expected.Expected.TheVariants as expec
 use Rattle.turtle_document.proofs.Completion.{Dots, dots_tokens, IsRight}
 use Rattle.turtle_document.proofs.Tools.{Trees, trees, IsRightFor, Same, same_rest, same_kind, same_leaf, same, arrives, tried, right_for}
 
--- behind a directive's IRI, where it gives this environment
+-- after a directive's IRI, where it gives this environment
 behind_iri : (dot : Bool) (outer : List Hole) (leaf : Leaf) (after : State)
     → IsRightFor (trees (Dots dot × Document) (λ x. lexeme kinds.Iri leaf ∷ dots_tokens dot x.0 (document_tokens x.1)) (λ x. document_of x.1 after))
     (lexeme kinds.Iri leaf) (to (config (after_iri dot) outer) after)

@@ -105,7 +105,7 @@ prefix_missing : rows_of (
 unfolding iri_of is_excluded is_hex is_digit chars encode
 prefix_missing = refl
 
--- `[ <urn:p> 1 ] <urn:q> 2 .`: a subject in brackets, with properties there and behind them
+-- `[ <urn:p> 1 ] <urn:q> 2 .`: a subject in brackets, with properties there and after them
 listed_subject : rows_of (
     triples (with_more (leaf 0 (codes "[")) (predicates (verb 2 (codes "<urn:p>")) (one (number 10 (codes "1"))) done) (leaf 12 (codes "]"))
     (predicates (verb 14 (codes "<urn:q>")) (one (number 22 (codes "2"))) done)) (leaf 24 (codes "."))

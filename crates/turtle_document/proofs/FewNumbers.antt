@@ -20,7 +20,7 @@ use Rattle.turtle_document.proofs.Reached.{Reached, reached_start, reached_next,
 use Rattle.turtle_document.proofs.Right.{right}
 use Rattle.turtle_document.proofs.Run.{leaf_of}
 
--- behind a document nothing waits
+-- after a document nothing waits
 at_rest : (old : List Triple) (start : State) (front : List Lexeme) (next : Expected) (outer : List Hole) (st after : State)
     → IsFormedBy next outer → Reached start front (config next outer) st → Numbered old next outer st → Means start front after → Fine old [] after
 at_rest old start front expect.Statement [] st after formed r h m =

@@ -229,7 +229,7 @@ end_right kinds.CloseSquare leaf s (hole ∷ outer) st =
     (filled_right (lexeme kinds.CloseSquare leaf) hole leaf.at s outer st)
 end_right kind leaf s outer st = λ x rest e. not_closing outer x.0 x.1 kind leaf rest refl e
 
--- Behind an object.
+-- After an object.
 abbrev continues : TokenKind → Bool
 continues kinds.Comma = true
 continues kinds.Semicolon = true
@@ -289,7 +289,7 @@ comma_build at s p outer st object (over more) leaf u =
 comma_build at s p outer st object (another comma objects more) leaf u =
     ((another at (several object comma objects) more, leaf, u), refl, parted_told (several object comma objects) more (length outer) s p st (up_of outer u s leaf.at))
 
--- the move behind an object is right
+-- the move after an object is right
 pub after_object_right : (kind : TokenKind) (leaf : Leaf) (s p : Term) (outer : List Hole) (st : State)
     → IsRightFor (partial (config (expect.AfterObject s p) outer) st) (lexeme kind leaf) (after_object kind leaf s p outer st)
 after_object_right kinds.Comma leaf s p outer st =
@@ -308,7 +308,7 @@ after_object_right kind leaf s p outer st =
     same (partial (config (expect.AfterObject s p) outer) st) (ends s outer st) (lexeme kind leaf) (at_end kind leaf s outer st)
     (object_over kind leaf s p outer st refl) (end_right kind leaf s outer st)
 
--- Behind a `;`.
+-- After a `;`.
 abbrev goes_on : TokenKind → Bool
 goes_on kinds.Semicolon = true
 goes_on kinds.Dot = true
@@ -370,7 +370,7 @@ semicolon_verbs kind at s outer st c = record {
   split = λ x rest e. semicolon_verb kind at s outer st x.0 x.1 x.2 rest c e;
 }
 
--- the move behind a `;` is right
+-- the move after a `;` is right
 pub after_semicolon_right : (kind : TokenKind) (leaf : Leaf) (s : Term) (outer : List Hole) (st : State)
     → IsRightFor (partial (config (expect.AfterSemicolon s) outer) st) (lexeme kind leaf) (after_semicolon kind leaf s outer st)
 after_semicolon_right kinds.Semicolon leaf s outer st =
@@ -389,7 +389,7 @@ after_semicolon_right kind leaf s outer st =
     same (partial (config (expect.AfterSemicolon s) outer) st) (partial (config (expect.Verb s) outer) st) (lexeme kind leaf) (at_verb kind leaf s outer st)
     (semicolon_verbs kind leaf s outer st refl) (verb_right kind leaf s outer st)
 
--- Behind a subject in brackets.
+-- After a subject in brackets.
 listed_end : (kind : TokenKind) (at : Leaf) (s : Term) (outer : List Hole) (st : State) (tree : Option Predicates) (leaf : Leaf) (u : Up outer) (rest : List Lexeme) → starts_verb kind ≡ false
     → maybe_tokens tree (closing outer leaf u) ≡ lexeme kind at ∷ rest
     → (y : Leaf × Up outer) × (closing outer y.0 y.1 ≡ lexeme kind at ∷ rest) × (completed_by (expect.AfterListed s) outer (tree, leaf, u) st ≡ up_of outer y.1 s y.0.at st)
@@ -417,7 +417,7 @@ listed_verbs kind at s outer st c = record {
   split = λ x rest e. listed_verb kind at s outer st x.0 x.1 x.2 rest c e;
 }
 
--- the move behind a subject in brackets is right
+-- the move after a subject in brackets is right
 pub after_listed_right : (kind : TokenKind) (leaf : Leaf) (s : Term) (outer : List Hole) (st : State)
     → IsRightFor (partial (config (expect.AfterListed s) outer) st) (lexeme kind leaf) (after_listed kind leaf s outer st)
 after_listed_right kinds.Dot leaf s outer st =

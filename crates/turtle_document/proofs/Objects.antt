@@ -24,7 +24,7 @@ use Rattle.turtle_document.proofs.Tools.{Trees, trees, partial, behind, HasNone,
 use Rattle.turtle_document.proofs.Starts.{class_of, no_object, name_kind, name_leaf, name_lexeme, name_shape, name_class, quoting_class, shorthand_class, same_name, same_quoting, same_shorthand, object_starts, no_first}
 use Rattle.turtle_document.proofs.Fill.{short_up, ups, filled_right}
 
--- Each of the following are the trees behind a token with which a term begins that fills a hole.
+-- Each of the following are the trees after a token with which a term begins that fills a hole.
 abbrev pub after_name : Name → Hole → List Hole → State → Trees
 after_name name hole outer st = trees (Up (hole ∷ outer)) (up_tokens (hole ∷ outer)) (λ u. name_of name st >>= (λ iri. up_of (hole ∷ outer) u (terms.Iri iri) (name_at name) st))
 
@@ -42,7 +42,7 @@ after_round leaf hole outer st =
     trees (Items × Leaf × Up (hole ∷ outer)) (λ x. items_tokens x.0 (lexeme kinds.CloseRound x.1 ∷ up_tokens (hole ∷ outer) x.2))
     (λ x. may_open leaf.at (length outer) st >>= (λ here. completed_by (expect.Item chains.Empty) (hole ∷ outer) x here))
 
--- what may stand behind a `[`, and what may come behind it once it is closed: without predicates, and with them
+-- what may stand after a `[`, and what may come after it once it is closed: without predicates, and with them
 abbrev pub Within : List Hole → List Hole → Type 0
 Within without behind_list = (Leaf × Up without) ⊎ (Predicates × Leaf × Up behind_list)
 
@@ -59,7 +59,7 @@ after_square leaf hole outer behind_list st =
     trees (Within (hole ∷ outer) behind_list) (within_tokens (hole ∷ outer) behind_list)
     (λ x. may_open leaf.at (length outer) st >>= (λ here. within_of (hole ∷ outer) behind_list x (suc (length outer)) here.blanks (numbered here)))
 
--- A reader is right behind each of them.
+-- A reader is right after each of them.
 pub name_right : (t : Lexeme) (name : Name) (hole : Hole) (outer : List Hole) (st : State)
     → IsRightFor (behind t (after_name name hole outer st)) t (on (name_of name st) (λ iri. filled hole (name_at name) (terms.Iri iri) outer st))
 name_right t name hole outer st =

@@ -1,4 +1,4 @@
--- Behind a `[`.
+-- After a `[`.
 use Rattle.std.proofs.Common.{◌≡◌, ◌⊎◌, inl, inr, ℕ, suc, Bool, true, false, List, ◌∷◌, length, refl, sym, ap, ◌∙◌}
 use Rattle.triple_store.specs.declared.term.Term.TheVariants as terms
 use Rattle.turtle_grammar.specs.declared.token.TokenKind.{TokenKind}
@@ -74,7 +74,7 @@ property_verbs kind leaf node hole outer st c = record {
   split = λ x rest e. verb_split kind leaf node hole outer st x rest c e;
 }
 
--- the move behind a `[` is right
+-- the move after a `[` is right
 pub property_right : (kind : TokenKind) (leaf : Leaf) (node : ℕ) (hole : Hole) (outer : List Hole) (st : State)
     → IsRightFor (partial (config (expect.Property node) (hole ∷ outer)) st) (lexeme kind leaf) (in_brackets kind leaf node (hole ∷ outer) st)
 property_right kinds.CloseSquare leaf node hole outer st =

@@ -22,7 +22,7 @@ use Rattle.turtle_document.proofs.Completion.{Tail, Behind, Up, up_tokens, tail_
 use Rattle.turtle_document.proofs.Completion.Tail.{over, another}
 use Rattle.turtle_document.proofs.Completion.Behind.{again, list}
 
--- The documents that begin with these tokens are the partial trees that may come, behind them, and mean what they leave.
+-- The documents that begin with these tokens are the partial trees that may come, after them, and mean what they leave.
 pub record Reached (start : State) (front : List Lexeme) (c : Config) (st : State) : Type 0 where
   pub build : (y : Partial c) → (d : Document) × (document_tokens d ≡ front ++ tokens_of c y) × (document_of d start ≡ completed c y st)
   pub split : (d : Document) (rest : List Lexeme) → document_tokens d ≡ front ++ rest
@@ -43,7 +43,7 @@ reached_next start front c t st d after r m = record {
       (y.0, y.1, x.2 ∙ y.2);
 }
 
--- What tokens are, where the partial trees behind them can be closed before any place without a fault.
+-- What tokens are, where the partial trees after them can be closed before any place without a fault.
 pub is_open : (start : State) (front : List Lexeme) (c : Config) (st : State) → Reached start front c st
     → ((n : ℕ) → (x : Partial c) × IsClearTo n (completed c x st)) → IsOpen start front
 is_open start front c st r some n =

@@ -1,4 +1,4 @@
--- A document's triples come behind the rows that are there, and there are never more rows than there may be.
+-- A document's triples come after the rows that are there, and there are never more rows than there may be.
 use Rattle.std.proofs.Common.{◌≡◌, ℕ, suc, ◌≤◌, Bool, true, false, if◌then◌else◌, List, [], ◌∷◌, ◌++◌, length, Option, None, Some, Result, Ok, Err, refl, sym, ap, ◌∙◌, subst, append_assoc, append-nil, length-append, arith}
 use Rattle.std.proofs.lemmas.Bool.{leb-false}
 use Rattle.std.specs.Prelude.{nat_lt, nat_le}

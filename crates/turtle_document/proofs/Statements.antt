@@ -28,7 +28,7 @@ saying subject y = triples (about subject y.0) y.1 ∷ y.2
 abbrev rest_tokens : Rest → List Lexeme
 rest_tokens y = predicates_tokens y.0 (lexeme kinds.Dot y.1 ∷ document_tokens y.2)
 
--- a list of predicates to stand behind a subject
+-- a list of predicates to stand after a subject
 abbrev some_rest : Leaf → Rest
 some_rest leaf = (Predicates.predicates (Verb.is_a leaf) (Objects.one (Object.label leaf)) More.done, leaf, [])
 

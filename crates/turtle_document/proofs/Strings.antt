@@ -1,4 +1,4 @@
--- Behind a string, and its datatype.
+-- After a string, and its datatype.
 use Rattle.std.proofs.Common.{◌≡◌, ◌≢◌, ℕ, zero, Bool, true, false, List, [], ◌∷◌, length, Some, Result, Ok, Err, if◌then◌else◌, refl, sym, ap, ◌∙◌, subst}
 use Rattle.triple_store.specs.declared.term.Term.{Term}
 use Rattle.triple_store.specs.declared.term.Term.TheVariants as terms
@@ -66,7 +66,7 @@ datatype_right kinds.PrefixedName leaf text hole outer st = typed_right (prefixe
 datatype_right kinds.Namespace leaf text hole outer st = typed_right (bare leaf) text hole outer st
 datatype_right kind leaf text hole outer st = typed_stuck kind leaf text hole outer st (λ k. (cc))
 
--- A string that fills its hole before the token behind it is judged.
+-- A string that fills its hole before the token after it is judged.
 abbrev object_ups : Term → Term → List Hole → Result State Fault → Trees
 object_ups s p outer r =
     trees (Up (holes.Object s p ∷ outer)) (up_tokens (holes.Object s p ∷ outer)) (λ u. r >>= tail_of u.0 (length outer) s p >>= up_of outer u.2 s u.1.at)
@@ -140,7 +140,7 @@ judged_right kind leaf (holes.Object s p) at term outer st may = object_judged k
 judged_right kind leaf (holes.Item first node) at term [] st may = absurd may
 judged_right kind leaf (holes.Item first node) at term (hole ∷ outer) st may = item_judged kind leaf first node at term hole outer st
 
--- what a string has behind it
+-- what a string has after it
 abbrev is_suffix : TokenKind → Bool
 is_suffix kinds.LanguageTag = true
 is_suffix kinds.DoubleCaret = true
@@ -216,7 +216,7 @@ carets_split leaf text at hole outer st (language tag) u rest may e =
 carets_split leaf text at hole outer st (datatype carets name) u rest may e =
     ((name, u), sym (same_rest _ _ (name_tokens name (up_tokens (hole ∷ outer) u)) rest e), datatype_leaves carets name text at hole outer st u)
 
--- the move behind a string is right
+-- the move after a string is right
 pub string_right : (kind : TokenKind) (leaf : Leaf) (text : List ℕ) (at : ℕ) (hole : Hole) (outer : List Hole) (st : State) → MayWait hole outer
     → IsRightFor (partial (config (expect.Suffix text at hole) outer) st) (lexeme kind leaf) (after_string kind leaf text at hole outer st)
 string_right kinds.LanguageTag leaf text at hole outer st may =

@@ -119,7 +119,7 @@ taken F t G s = record {
 pub takes : (F : Trees) (t : Lexeme) (G : Trees) (m : Move) → Takes F t G → IsRightFor (behind t G) t m → IsRightFor F t m
 takes F t G m s h = same F (behind t G) t m (taken F t G s) h
 
--- the trees behind the token are a config's
+-- the trees after the token are a config's
 pub arrives : (t : Lexeme) (d : Config) (after : State) → IsRightFor (behind t (partial d after)) t (to d after)
 arrives t d after = record {
   build = λ y. (y, refl, refl);

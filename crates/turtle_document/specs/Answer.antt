@@ -52,7 +52,7 @@ abbrev pub Faults : State → List Lexeme → Fault → Type 0
 Faults start front fault =
     BeginsDocument front × ((d : Document) (more : List Lexeme) → document_tokens d ≡ front ++ more → document_of d start ≡ Err fault)
 
--- the whole text falls into these tokens, and this comes behind them
+-- the whole text falls into these tokens, and this comes after them
 abbrev pub HasTokens : List ℕ → List Token → Answer → Type 0
 HasTokens bytes tokens last = IsUtf8 bytes × Lexes bytes (start_of bytes) tokens last
 
@@ -102,7 +102,7 @@ HasOneOutcome = (base : List ℕ) (rows : List Triple) (bytes : List ℕ) (a b :
 abbrev pub HasSomeOutcome : Type 0
 HasSomeOutcome = (base : List ℕ) (rows : List Triple) (bytes : List ℕ) → (o : Outcome) × IsReadAs (beginning base rows) bytes o
 
--- A document's triples come behind the rows that were there, and they are never more than a store has room for.
+-- A document's triples come after the rows that were there, and they are never more than a store has room for.
 abbrev pub KeepsRows : Type 0
 KeepsRows = (base : List ℕ) (old : List Triple) (bytes : List ℕ) (rows : List Triple)
     → IsReadAs (beginning base old) bytes (document rows) → length old ≤ MOST_ROWS

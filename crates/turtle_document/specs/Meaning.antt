@@ -40,7 +40,7 @@ pub record State : Type 0 where
   pub blanks : ℕ
   pub rows : List Triple
 
--- a term, and the environment behind it
+-- a term, and the environment after it
 pub record Read : Type 0 where
   pub term : Term
   pub state : State
@@ -178,7 +178,7 @@ abbrev mutual
   object_of (properties start list end) n st =
       may_open start.at n st >>= (λ here. predicates_of list (suc n) (fresh here).term (fresh here).state >>= (λ after. Ok (read (fresh here).term after)))
 
-  -- The rest of a collection behind the node before: each item has a node, numbered before it, with the item as its first.
+  -- The rest of a collection after the node before: each item has a node, numbered before it, with the item as its first.
   pub items_of : Items → ℕ → Option ℕ → ℕ → State → Result Read Fault
   items_of none n before close st = ended before close st >>= (λ after. Ok (read (Iri rdf_nil) after))
   items_of (item object items) n before close st =

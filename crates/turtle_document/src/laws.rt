@@ -11,7 +11,7 @@ pub fn some_outcome()
     ensures { HasSomeOutcome }
 {}
 
-/// A document's triples come behind the rows that were there, and they are never more than a store has room for.
+/// A document's triples come after the rows that were there, and they are never more than a store has room for.
 pub fn keeps_rows()
     ensures { KeepsRows }
 {}

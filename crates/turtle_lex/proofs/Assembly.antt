@@ -229,7 +229,7 @@ not_two_second q text at next c after r s h =
 pub reads_as : (text : List ℕ) (at c d next : ℕ) → c ≡ d → Reads text at c next → Reads text at d next
 reads_as text at c d next e r = let P : ℕ → Type 0 = λ x. Reads text at x next in subst P e r
 
--- Behind the opening.
+-- After the opening.
 iri_opens : after 60 (pattern Iri) ≡ body enclosures.Angle
 unfolding pattern iriref
 iri_opens = refl
@@ -328,7 +328,7 @@ gap_found text from at place h =
       place = h.1;
     }
 
--- An answer behind a gap.
+-- An answer after a gap.
 pub answered : (text : List ℕ) (from at : ℕ) (answer : Answer) → Gap text from at → IsAnswer (chars_from text at) at answer → IsNext (chars_from text from) from answer
 answered text from at answer g h =
     let P : List ℕ → Type 0 = λ x. IsAnswer x at answer in

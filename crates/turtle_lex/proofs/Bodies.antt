@@ -16,7 +16,7 @@ use Rattle.turtle_lex.specs.declared.stop.Stop.TheVariants.{Unclosed, Bad}
 use Rattle.turtle_lex.proofs.Opened.{moved, by_pattern, either_fails, inside}
 use Rattle.turtle_lex.proofs.Inside.{body_frame}
 
--- Two patterns that go on alike behind c see the same in a text that begins with c.
+-- Two patterns that go on alike after c see the same in a text that begins with c.
 turned : (c : ℕ) (p q : Pattern) (a : List ℕ) → after c p ≡ after c q → Matches q (c ∷ a) → Matches p (c ∷ a)
 turned c p q a e h = from_after c p a (by_pattern (after c q) (after c p) a (sym e) (to_after c q a h))
 

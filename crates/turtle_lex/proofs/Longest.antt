@@ -1,4 +1,4 @@
--- How the longest token of a text follows from what is behind its first character.
+-- How the longest token of a text follows from what is after its first character.
 use Rattle.std.proofs.Common.{◌≡◌, ◌⊎◌, inl, inr, ⊎_elim, ℕ, suc, ◌<◌, Bool, true, false, Option, Some, None, List, [], ◌∷◌, ◌++◌, length, refl, sym, ap, ◌∙◌, subst, arith}
 use Rattle.std.specs.List.{AllByRecursion}
 use Rattle.turtle_grammar.specs.Pattern.{Pattern, fails, nothing, one, ◌then◌, ◌or◌, many, Matches, is_empty, after}
@@ -140,7 +140,7 @@ picks_by c rs text None [] e sole h = none_next c rs text e h
 picks_by c rs text None (kind ∷ []) e sole h = ends_here c rs text kind e h
 picks_by c rs text None (kind ∷ other ∷ kinds) e sole h = absurd sole
 
--- One character on: what is picked behind it is picked here, or else the kind that ends here.
+-- One character on: what is picked after it is picked here, or else the kind that ends here.
 pub picks_step : (c : ℕ) (rs next : List Candidate) (text : List ℕ) (found : Option (TokenKind × List ℕ)) → alive (all_after c rs) ≡ next → IsSole (accepting rs) → Picks next text found
     → Picks rs (c ∷ text) (better found (accepting rs) (c ∷ text))
 picks_step c rs next text found e sole h =

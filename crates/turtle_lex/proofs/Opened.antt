@@ -1,4 +1,4 @@
--- How what is seen of a text follows from what is seen behind its first character.
+-- How what is seen of a text follows from what is seen after its first character.
 use Rattle.std.proofs.Common.{◌≡◌, ℕ, suc, ◌≤◌, false, ◌&&◌, cond, List, [], ◌∷◌, ◌++◌, length, refl, sym, ap, subst, Result, Ok, Err, arith}
 use Rattle.turtle_grammar.specs.Pattern.{Pattern, fails, nothing, one, ◌then◌, ◌or◌, many, Matches, is_empty, after, in_row, either}
 use Rattle.turtle_grammar.specs.Tokens.{Begins}
@@ -15,7 +15,7 @@ moved p a b e h = let P : List ℕ → Type 0 = λ x. Matches p x in subst P e h
 pub by_pattern : (p q : Pattern) (a : List ℕ) → p ≡ q → Matches p a → Matches q a
 by_pattern p q a e h = let P : Pattern → Type 0 = λ x. Matches x a in subst P e h
 
--- a text of q is one of p behind c
+-- a text of q is one of p after c
 pub behind : (c : ℕ) (p q : Pattern) (a : List ℕ) → after c p ≡ q → Matches q a → Matches p (c ∷ a)
 behind c p q a e h = from_after c p a (by_pattern q (after c p) a (sym e) h)
 

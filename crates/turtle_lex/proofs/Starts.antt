@@ -223,7 +223,7 @@ pub words_accept : accepting words ≡ []
 unfolding pattern
 words_accept = refl
 
--- behind the first character
+-- after the first character
 pub caret_again : (c : ℕ) → c ≡ 94 → alive (all_after c caret) ≡ wanting DoubleCaret nothing ∷ []
 caret_again c e = rw e refl
 

@@ -45,7 +45,7 @@ wide LocalName c w le = cc
 wide (Plain e) c w le = plain_wide e c le
 wide (Alphanumeric run) c w le = cc
 
--- a character of the class, and the place behind it, which is no further than the run's end
+-- a character of the class, and the place after it, which is no further than the run's end
 record IsStep (class : Class) (text : List ℕ) (at upto : ℕ) : Type 0 where
   c : ℕ
   next : ℕ

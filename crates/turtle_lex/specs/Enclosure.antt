@@ -73,6 +73,6 @@ long_body e zero = many (long_piece e) then times 3 (char (closing e))
 long_body e (suc zero) = (((nothing or char (closing e)) then piece e) then many (long_piece e) then times 3 (char (closing e))) or times 2 (char (closing e))
 long_body e (suc (suc n)) = (piece e then many (long_piece e) then times 3 (char (closing e))) or char (closing e)
 
--- A long string behind its first quote, and behind its second.
+-- A long string after its first quote, and after its second.
 abbrev pub long_opening : Enclosure → ℕ → Pattern
 long_opening e n = times n (char (closing e)) then many (long_piece e) then times 3 (char (closing e))

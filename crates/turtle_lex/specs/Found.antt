@@ -15,7 +15,7 @@ FindsAt text at (Err Unclosed) = Finds (chars_from text at) unclosed
 FindsAt text at (Err (Bad place)) =
     (i : ℕ) × Finds (chars_from text at) (bad i) × (i < length (chars_from text at)) × (place ≡ at + bytes_of (take i (chars_from text at)))
 
--- two more quotes, and the place behind them, or not two more
+-- two more quotes, and the place after them, or not two more
 abbrev pub OpensLong : List ℕ → ℕ → ℕ → Option ℕ → Type 0
 OpensLong text at quote (Some after) = (mid : ℕ) × Reads text at quote mid × Reads text mid quote after
 OpensLong text at quote None = starts_with nat_eq (chars_from text at) (quote ∷ quote ∷ []) ≡ false

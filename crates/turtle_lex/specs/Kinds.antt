@@ -40,7 +40,7 @@ letters true cs = word_in_any_case cs
 abbrev pub dot_start : List Candidate
 dot_start = wanting Decimal digits ∷ wanting Double (digits then exponent) ∷ wanting Dot nothing ∷ []
 
--- behind `_` and behind `^`
+-- after `_` and after `^`
 abbrev pub underscore : List Candidate
 underscore = wanting BlankLabel (char 58 then (one is_name_start or one is_digit) then name_rest) ∷ []
 

@@ -8,11 +8,11 @@ use Rattle.turtle_grammar.specs.declared.token.TokenKind.TheVariants.{Namespace,
 use Rattle.turtle_lex.specs.Places.{IsPlace, Reads}
 use Rattle.turtle_lex.specs.Picks.{Candidate, PicksAt}
 
--- the rest of a name behind a dot
+-- the rest of a name after a dot
 abbrev pub dotted : Pattern
 dotted = many (one is_name_char or char 46) then one is_name_char
 
--- a label behind `_:`, behind a character that may end it, and behind a dot
+-- a label after `_:`, after a character that may end it, and after a dot
 abbrev pub label_start : List Candidate
 label_start = record { kind = BlankLabel; wanted = (one is_name_start or one is_digit) then name_rest } ∷ []
 
@@ -22,14 +22,14 @@ label = record { kind = BlankLabel; wanted = name_rest } ∷ []
 abbrev pub label_dot : List Candidate
 label_dot = record { kind = BlankLabel; wanted = dotted } ∷ []
 
--- a prefix behind a character that may end it, and behind a dot
+-- a prefix after a character that may end it, and after a dot
 abbrev pub prefix : List Candidate
 prefix = record { kind = Namespace; wanted = name_rest then char 58 } ∷ record { kind = PrefixedName; wanted = name_rest then char 58 then pn_local } ∷ []
 
 abbrev pub prefix_dot : List Candidate
 prefix_dot = record { kind = Namespace; wanted = dotted then char 58 } ∷ record { kind = PrefixedName; wanted = dotted then char 58 then pn_local } ∷ []
 
--- behind the colon
+-- after the colon
 abbrev pub colon : List Candidate
 colon = record { kind = Namespace; wanted = nothing } ∷ record { kind = PrefixedName; wanted = pn_local } ∷ []
 
@@ -42,7 +42,7 @@ local_last = one is_name_char or char 58 or plx
 abbrev pub local_dotted : Pattern
 local_dotted = many local_part then local_last
 
--- a local name behind a character that may end it, and behind a dot
+-- a local name after a character that may end it, and after a dot
 abbrev pub local : List Candidate
 local = record { kind = PrefixedName; wanted = maybe local_dotted } ∷ []
 
@@ -72,7 +72,7 @@ pub record HasDots (text : List ℕ) (last at : ℕ) : Type 0 where
   pub labels : (x : TokenKind × ℕ) → PicksAt label_dot text at (Some x) → PicksAt label text last (Some x)
   pub carries : (found : Option (TokenKind × ℕ)) → PicksAt prefix_dot text at found → PicksAt prefix text last found
 
--- a name so far: it may end at `last`, and only dots stand behind that
+-- a name so far: it may end at `last`, and only dots stand after that
 pub record HasName (text : List ℕ) (from last at : ℕ) : Type 0 where
   pub place : IsPlace text at
   pub last_place : IsPlace text last

@@ -6,7 +6,7 @@ use Rattle.turtle_grammar.specs.Terminals.{digits, sign, exponent}
 use Rattle.turtle_grammar.specs.declared.token.TokenKind.TheVariants.{Integer, Decimal, Double}
 use Rattle.turtle_lex.specs.Picks.{Candidate}
 
--- behind a sign
+-- after a sign
 abbrev pub unsigned : List Candidate
 unsigned =
     record { kind = Integer; wanted = digits }
@@ -14,7 +14,7 @@ unsigned =
     ∷ record { kind = Double; wanted = (digits then char 46 then many (one is_digit) then exponent) or (char 46 then digits then exponent) or (digits then exponent) }
     ∷ []
 
--- behind some digits
+-- after some digits
 abbrev pub whole : List Candidate
 whole =
     record { kind = Integer; wanted = many (one is_digit) }
@@ -22,19 +22,19 @@ whole =
     ∷ record { kind = Double; wanted = (many (one is_digit) then char 46 then many (one is_digit) then exponent) or (many (one is_digit) then exponent) }
     ∷ []
 
--- behind digits and a dot
+-- after digits and a dot
 abbrev pub dot : List Candidate
 dot = record { kind = Decimal; wanted = digits } ∷ record { kind = Double; wanted = many (one is_digit) then exponent } ∷ []
 
--- behind a dot alone
+-- after a dot alone
 abbrev pub first_dot : List Candidate
 first_dot = record { kind = Decimal; wanted = digits } ∷ record { kind = Double; wanted = digits then exponent } ∷ []
 
--- behind a dot and digits
+-- after a dot and digits
 abbrev pub fraction : List Candidate
 fraction = record { kind = Decimal; wanted = many (one is_digit) } ∷ record { kind = Double; wanted = many (one is_digit) then exponent } ∷ []
 
--- behind the letter of an exponent, behind its sign, behind its first digit
+-- after the letter of an exponent, after its sign, after its first digit
 abbrev pub exponent_sign : List Candidate
 exponent_sign = record { kind = Double; wanted = sign then digits } ∷ []
 

@@ -27,12 +27,12 @@ pub record IsPicked (rs : List Candidate) (text : List ℕ) (kind : TokenKind) (
   pub fits : IsOne rs kind front
   pub longest : AllByRecursion (IsNoLonger text front kind) rs
 
--- the longest token and the characters behind it, if there is one
+-- the longest token and the characters after it, if there is one
 abbrev pub Picks : List Candidate → List ℕ → Option (TokenKind × List ℕ) → Type 0
 Picks rs text None = AllByRecursion (λ (r : Candidate). NoFront r.wanted text) rs
 Picks rs text (Some (kind, back)) = IsPicked rs text kind back
 
--- what is wanted behind a character
+-- what is wanted after a character
 abbrev pub all_after : ℕ → List Candidate → List Candidate
 all_after c [] = []
 all_after c (r ∷ rs) = record { kind = r.kind; wanted = after c r.wanted } ∷ all_after c rs
@@ -90,7 +90,7 @@ pub record Loops (class : ℕ → Bool) (rs : List Candidate) : Type 0 where
   pub stays : (c : ℕ) → class c ≡ true → alive (all_after c rs) ≡ rs
   pub sole : IsSole (accepting rs)
 
--- what is picked behind a run of the class is picked before it
+-- what is picked after a run of the class is picked before it
 abbrev pub Carries : (ℕ → Bool) → List ℕ → ℕ → ℕ → Type 0
 Carries class text at upto = (rs : List Candidate) → Loops class rs → (found : Option (TokenKind × ℕ)) → PicksAt rs text upto found → PicksAt rs text at found
 

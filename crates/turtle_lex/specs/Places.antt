@@ -11,13 +11,13 @@ pub record IsPlace (text : List ℕ) (at : ℕ) : Type 0 where
 abbrev pub chars_from : List ℕ → ℕ → List ℕ
 chars_from text at = chars (drop at text)
 
--- The character c stands at a place, and `upto` is the place behind it.
+-- The character c stands at a place, and `upto` is the place after it.
 pub record Reads (text : List ℕ) (at c upto : ℕ) : Type 0 where
   pub reads : chars_from text at ≡ c ∷ chars_from text upto
   pub further : at < upto
   pub place : IsPlace text upto
 
--- the character at a place, and the place behind it, or the end
+-- the character at a place, and the place after it, or the end
 abbrev pub ReadsChar : List ℕ → ℕ → Option (ℕ × ℕ) → Type 0
 ReadsChar text at None = chars_from text at ≡ []
 ReadsChar text at (Some (c, upto)) = Reads text at c upto

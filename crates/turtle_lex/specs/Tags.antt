@@ -11,7 +11,7 @@ use Rattle.turtle_lex.specs.Picks.{Candidate, PicksAt, all_after, alive}
 abbrev pub subtags : Pattern
 subtags = many (char 45 then some (one is_letter_or_digit))
 
--- behind `@`, behind a letter, behind a hyphen, behind a letter or digit after a hyphen
+-- after `@`, after a letter, after a hyphen, after a letter or digit that follows a hyphen
 abbrev pub tag_start : List Candidate
 tag_start = record { kind = LanguageTag; wanted = some (one is_letter) then subtags } ∷ []
 
@@ -51,6 +51,6 @@ abbrev pub GapSteps : ℕ → Bool → Option Bool → Type 0
 GapSteps c in_comment (Some next) = alive (all_after c (gap_state in_comment)) ≡ gap_state next
 GapSteps c in_comment None = alive (all_after c (gap_state in_comment)) ≡ []
 
--- what is picked behind characters that change nothing in a gap is picked before them
+-- what is picked after characters that change nothing in a gap is picked before them
 abbrev pub GapCarries : Bool → List ℕ → ℕ → ℕ → Type 0
 GapCarries in_comment text at upto = (x : TokenKind × ℕ) → PicksAt (gap_state in_comment) text upto (Some x) → PicksAt (gap_state in_comment) text at (Some x)

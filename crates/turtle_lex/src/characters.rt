@@ -6,7 +6,7 @@ ghost use Rattle.turtle_lex.specs.Places.{IsPlace, ReadsChar};
 
 use crate::class::Class;
 
-/// The character at a place, and the place behind it. None at the end.
+/// The character at a place, and the place after it. None at the end.
 #[inline(always)]
 pub fn char_at(text: &str, at: usize) -> Option<(char, usize)>
     requires { IsPlace text.now at }

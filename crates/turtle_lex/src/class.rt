@@ -15,7 +15,7 @@ pub enum Class {
     White,
     /// What may stand in a comment.
     Comment,
-    /// What may stand in a name behind its first character, but for a dot.
+    /// What may stand in a name after its first character, but for a dot.
     Name,
     /// The same and a colon.
     LocalName,

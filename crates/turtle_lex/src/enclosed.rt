@@ -10,7 +10,7 @@ use crate::enclosure::Enclosure;
 use crate::escape::escape_end;
 use crate::stop::Stop;
 
-/// Over the character `c` at `at`, behind which `next` is, or over the escape that it begins.
+/// Over the character `c` at `at`, after which `next` is, or over the escape that it begins.
 fn piece_end(
     text: &str,
     at: usize,
@@ -42,7 +42,7 @@ fn plain_end(text: &str, from: usize, enclosure: Enclosure) -> usize
     Class::Plain(enclosure).run_end(text, from)
 }
 
-/// From behind the opening of an IRI or a short string to behind its close.
+/// From the end of the opening of an IRI or a short string to the end of its close.
 pub fn body_end(text: &str, from: usize, enclosure: Enclosure) -> Result<usize, Stop>
     requires { IsPlace text.now from }
     ensures { Leads (body enclosure) nothing text.now from result }
@@ -58,7 +58,7 @@ pub fn body_end(text: &str, from: usize, enclosure: Enclosure) -> Result<usize, 
     Err(Stop::Unclosed)
 }
 
-/// From behind the opening of a long string to behind its close.
+/// From the end of the opening of a long string to the end of its close.
 pub fn long_body_end(text: &str, from: usize, enclosure: Enclosure) -> Result<usize, Stop>
     requires { IsPlace text.now from }
     ensures { Leads (long_body enclosure 0) nothing text.now from result }

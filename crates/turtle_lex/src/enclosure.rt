@@ -31,7 +31,7 @@ impl Enclosure {
         }
     }
 
-    /// Whether the letter stands for a character behind a backslash.
+    /// Whether the letter stands for a character after a backslash.
     pub fn has_letter_escape(self, c: char) -> bool
         ensures { result ≡ letter_escape self c }
     {

@@ -7,7 +7,7 @@ use crate::characters::{char_at, is_line_end, is_white};
 use crate::class::Class;
 use turtle_grammar::TokenKind;
 
-/// Whether a comment is open behind the character, or none where the gap ends before it.
+/// Whether a comment is open after the character, or none where the gap ends before it.
 fn gap_step(c: char, in_comment: bool) -> Option<bool>
     ensures { GapSteps c in_comment result }
 {

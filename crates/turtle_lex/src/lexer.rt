@@ -58,7 +58,7 @@ impl<'a> Lexer<'a> {
     }
 }
 
-/// The place behind a byte order mark with which a text begins, else its beginning.
+/// The place after a byte order mark with which a text begins, else its beginning.
 fn behind_mark(text: &str) -> usize
     ensures place { IsPlace text.now result }
     ensures value { result ≡ start_of text.now }
@@ -79,7 +79,7 @@ fn fault_of(stop: Stop, at: usize) -> LexFault
     }
 }
 
-/// What comes next behind the white space and comments at a place.
+/// What comes next after the white space and comments at a place.
 fn token_from(text: &str, from: usize) -> Result<Option<Token>, LexFault>
     requires { IsPlace text.now from }
     ensures place { EndsAtPlace text.now result }

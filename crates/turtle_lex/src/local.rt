@@ -10,7 +10,7 @@ use crate::characters::{char_at, is_hex, is_local_char, is_local_escape, is_loca
 use crate::class::Class;
 use turtle_grammar::TokenKind;
 
-/// Over the second digit behind `%`.
+/// Over the second digit after `%`.
 fn second_digit_end(text: &str, at: usize) -> Option<usize>
     requires { IsPlace text.now at }
     ensures { GoesWithin hex text.now at result }
@@ -21,7 +21,7 @@ fn second_digit_end(text: &str, at: usize) -> Option<usize>
     }
 }
 
-/// Over the two digits behind `%`.
+/// Over the two digits after `%`.
 fn digits_end(text: &str, at: usize) -> Option<usize>
     requires { IsPlace text.now at }
     ensures { GoesWithin (times 2 hex) text.now at result }
@@ -38,7 +38,7 @@ fn digits_end(text: &str, at: usize) -> Option<usize>
     }
 }
 
-/// Over the character behind a backslash.
+/// Over the character after a backslash.
 fn escaped_end(text: &str, at: usize) -> Option<usize>
     requires { IsPlace text.now at }
     ensures { GoesWithin (one is_local_escape) text.now at result }
@@ -49,7 +49,7 @@ fn escaped_end(text: &str, at: usize) -> Option<usize>
     }
 }
 
-/// Over the part of a local name that begins with `c` at `at`, behind which `next` is.
+/// Over the part of a local name that begins with `c` at `at`, after which `next` is.
 fn part_end(text: &str, at: usize, c: char, next: usize) -> Option<usize>
     requires place { IsPlace text.now at }
     requires reads { Reads text.now at c next }
@@ -67,7 +67,7 @@ fn part_end(text: &str, at: usize, c: char, next: usize) -> Option<usize>
     }
 }
 
-/// Where a local name ends, from behind its first part: not behind a plain dot.
+/// Where a local name ends, read from the end of its first part: not after a plain dot.
 fn local_end(text: &str, from: usize) -> usize
     requires { IsPlace text.now from }
     ensures { PicksAt local text.now from (Some (TokenKind.PrefixedName, result)) }
@@ -90,7 +90,7 @@ fn local_end(text: &str, from: usize) -> usize
     last
 }
 
-/// A local name, if one stands behind the colon at whose end `at` is.
+/// A local name, if one stands after the colon at whose end `at` is.
 #[inline(always)]
 pub fn local_at(text: &str, at: usize) -> Option<(TokenKind, usize)>
     requires { IsPlace text.now at }

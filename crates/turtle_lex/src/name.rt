@@ -6,7 +6,7 @@ use crate::characters::{char_at, is_digit, is_name_char, is_name_start};
 use crate::class::Class;
 use turtle_grammar::TokenKind;
 
-/// Where a prefix or a label ends, from behind its first character: not behind a dot.
+/// Where a prefix or a label ends, read from the end of its first character: not after a dot.
 pub fn name_end(text: &str, from: usize) -> usize
     requires { IsPlace text.now from }
     ensures { IsNameEnd text.now from result }
@@ -26,7 +26,7 @@ pub fn name_end(text: &str, from: usize) -> usize
     last
 }
 
-/// A blank node's label, from behind its `_:`.
+/// A blank node's label, from after its `_:`.
 pub fn label_at(text: &str, at: usize) -> Option<(TokenKind, usize)>
     requires { IsPlace text.now at }
     ensures { PicksAt label_start text.now at result }

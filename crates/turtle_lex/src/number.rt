@@ -21,7 +21,7 @@ pub fn found_or(
     }
 }
 
-/// Behind the first digit of an exponent.
+/// After the first digit of an exponent.
 fn exponent_rest_at(text: &str, at: usize) -> Option<(TokenKind, usize)>
     requires { IsPlace text.now at }
     ensures { PicksAt exponent_rest text.now at result }
@@ -30,7 +30,7 @@ fn exponent_rest_at(text: &str, at: usize) -> Option<(TokenKind, usize)>
     Some((TokenKind::Double, end))
 }
 
-/// Behind the sign of an exponent.
+/// After the sign of an exponent.
 fn exponent_digits_at(text: &str, at: usize) -> Option<(TokenKind, usize)>
     requires { IsPlace text.now at }
     ensures { PicksAt exponent_digits text.now at result }
@@ -47,7 +47,7 @@ fn exponent_digits_at(text: &str, at: usize) -> Option<(TokenKind, usize)>
     }
 }
 
-/// Behind the letter of an exponent.
+/// After the letter of an exponent.
 fn exponent_at(text: &str, at: usize) -> Option<(TokenKind, usize)>
     requires { IsPlace text.now at }
     ensures { PicksAt exponent_sign text.now at result }
@@ -66,7 +66,7 @@ fn exponent_at(text: &str, at: usize) -> Option<(TokenKind, usize)>
     }
 }
 
-/// Behind a dot and a digit.
+/// After a dot and a digit.
 pub fn fraction_at(text: &str, at: usize) -> Option<(TokenKind, usize)>
     requires { IsPlace text.now at }
     ensures { PicksAt fraction text.now at result }
@@ -84,7 +84,7 @@ pub fn fraction_at(text: &str, at: usize) -> Option<(TokenKind, usize)>
     }
 }
 
-/// Behind digits and a dot.
+/// After digits and a dot.
 fn dot_at(text: &str, at: usize) -> Option<(TokenKind, usize)>
     requires { IsPlace text.now at }
     ensures { PicksAt dot text.now at result }
@@ -103,7 +103,7 @@ fn dot_at(text: &str, at: usize) -> Option<(TokenKind, usize)>
     }
 }
 
-/// Behind a dot with which the number begins.
+/// After a dot with which the number begins.
 fn first_dot_at(text: &str, at: usize) -> Option<(TokenKind, usize)>
     requires { IsPlace text.now at }
     ensures { PicksAt first_dot text.now at result }
@@ -120,7 +120,7 @@ fn first_dot_at(text: &str, at: usize) -> Option<(TokenKind, usize)>
     }
 }
 
-/// Behind the first digit.
+/// After the first digit.
 pub fn whole_at(text: &str, at: usize) -> Option<(TokenKind, usize)>
     requires { IsPlace text.now at }
     ensures { PicksAt whole text.now at result }
@@ -140,7 +140,7 @@ pub fn whole_at(text: &str, at: usize) -> Option<(TokenKind, usize)>
     }
 }
 
-/// Behind a sign.
+/// After a sign.
 pub fn unsigned_at(text: &str, at: usize) -> Option<(TokenKind, usize)>
     requires { IsPlace text.now at }
     ensures { PicksAt unsigned text.now at result }

@@ -28,7 +28,7 @@ fn mark_of(c: char) -> Option<TokenKind>
     }
 }
 
-/// Behind a dot: a number, or the dot alone.
+/// After a dot: a number, or the dot alone.
 fn dot_start_at(text: &str, at: usize) -> Option<(TokenKind, usize)>
     requires { IsPlace text.now at }
     ensures { PicksAt dot_start text.now at result }
@@ -45,7 +45,7 @@ fn dot_start_at(text: &str, at: usize) -> Option<(TokenKind, usize)>
     }
 }
 
-/// Behind `^`.
+/// After `^`.
 fn caret_at(text: &str, at: usize) -> Option<(TokenKind, usize)>
     requires { IsPlace text.now at }
     ensures { PicksAt caret text.now at result }
@@ -62,7 +62,7 @@ fn caret_at(text: &str, at: usize) -> Option<(TokenKind, usize)>
     }
 }
 
-/// Behind `_`.
+/// After `_`.
 fn underscore_at(text: &str, at: usize) -> Option<(TokenKind, usize)>
     requires { IsPlace text.now at }
     ensures { PicksAt underscore text.now at result }
@@ -73,7 +73,7 @@ fn underscore_at(text: &str, at: usize) -> Option<(TokenKind, usize)>
     }
 }
 
-/// A name, from behind the first letter of its prefix.
+/// A name, from after the first letter of its prefix.
 #[inline(always)]
 fn prefix_at(text: &str, at: usize) -> Option<(TokenKind, usize)>
     requires { IsPlace text.now at }
@@ -86,7 +86,7 @@ fn prefix_at(text: &str, at: usize) -> Option<(TokenKind, usize)>
     }
 }
 
-/// The longest token that begins with `c` at `at`, behind which `next` is. `c` opens no quote and no IRI.
+/// The longest token that begins with `c` at `at`, after which `next` is. `c` opens no quote and no IRI.
 pub fn plain_at(text: &str, at: usize, c: char, next: usize) -> Option<(TokenKind, usize)>
     requires place { IsPlace text.now at }
     requires reads { Reads text.now at c next }
@@ -119,7 +119,7 @@ pub fn plain_at(text: &str, at: usize, c: char, next: usize) -> Option<(TokenKin
     }
 }
 
-/// The name or the word that begins with a letter `c` at `at`, behind which `next` is.
+/// The name or the word that begins with a letter `c` at `at`, after which `next` is.
 #[inline(always)]
 fn name_or_word_at(text: &str, at: usize, c: char, next: usize) -> Option<(TokenKind, usize)>
     requires place { IsPlace text.now at }

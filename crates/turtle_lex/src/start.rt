@@ -8,7 +8,7 @@ use crate::plain::plain_at;
 use crate::stop::Stop;
 use turtle_grammar::TokenKind;
 
-/// Behind two more quotes, if they stand at a place.
+/// After two more quotes, if they stand at a place.
 fn long_opening_end(text: &str, at: usize, quote: char) -> Option<usize>
     requires { IsPlace text.now at }
     ensures { OpensLong text.now at quote result }
@@ -25,7 +25,7 @@ fn long_opening_end(text: &str, at: usize, quote: char) -> Option<usize>
     }
 }
 
-/// Behind the quote at `next`, where one stands at `at` before it.
+/// After the quote at `next`, where one stands at `at` before it.
 fn second_quote_end(text: &str, at: usize, next: usize, quote: char) -> Option<usize>
     requires place { IsPlace text.now at }
     requires first { Reads text.now at quote next }
@@ -37,7 +37,7 @@ fn second_quote_end(text: &str, at: usize, next: usize, quote: char) -> Option<u
     }
 }
 
-/// A string whose first quote, `"`, stands at `at`, and `next` behind it.
+/// A string whose first quote, `"`, stands at `at`, and `next` after it.
 fn double_quoted_at(text: &str, at: usize, next: usize) -> Result<(TokenKind, usize), Stop>
     requires place { IsPlace text.now at }
     requires reads { Reads text.now at 34 next }
@@ -55,7 +55,7 @@ fn double_quoted_at(text: &str, at: usize, next: usize) -> Result<(TokenKind, us
     }
 }
 
-/// A string whose first quote, `'`, stands at `at`, and `next` behind it.
+/// A string whose first quote, `'`, stands at `at`, and `next` after it.
 fn single_quoted_at(text: &str, at: usize, next: usize) -> Result<(TokenKind, usize), Stop>
     requires place { IsPlace text.now at }
     requires reads { Reads text.now at 39 next }
@@ -73,7 +73,7 @@ fn single_quoted_at(text: &str, at: usize, next: usize) -> Result<(TokenKind, us
     }
 }
 
-/// An IRI whose `<` stands at `at`, and `next` behind it.
+/// An IRI whose `<` stands at `at`, and `next` after it.
 fn iri_at(text: &str, at: usize, next: usize) -> Result<(TokenKind, usize), Stop>
     requires place { IsPlace text.now at }
     requires reads { Reads text.now at 60 next }
@@ -83,7 +83,7 @@ fn iri_at(text: &str, at: usize, next: usize) -> Result<(TokenKind, usize), Stop
     Ok((TokenKind::Iri, upto))
 }
 
-/// What begins with `c` at `at`, behind which `next` is.
+/// What begins with `c` at `at`, after which `next` is.
 pub fn found_at(text: &str, at: usize, c: char, next: usize) -> Result<(TokenKind, usize), Stop>
     requires place { IsPlace text.now at }
     requires reads { Reads text.now at c next }

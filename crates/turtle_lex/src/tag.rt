@@ -6,7 +6,7 @@ use crate::characters::{char_at, is_letter, is_letter_or_digit};
 use crate::run::Run;
 use turtle_grammar::TokenKind;
 
-/// Behind a hyphen and the letter or digit after it, if they stand here.
+/// After a hyphen and the letter or digit that follows, if they stand here.
 fn hyphen_at(text: &str, at: usize) -> Option<usize>
     requires { IsPlace text.now at }
     ensures { GoesOnWithHyphen text.now at result }
@@ -23,7 +23,7 @@ fn hyphen_at(text: &str, at: usize) -> Option<usize>
     }
 }
 
-/// Behind the letter or digit at `next`, before which a hyphen stands at `at`.
+/// After the letter or digit at `next`, before which a hyphen stands at `at`.
 fn letter_or_digit_at(text: &str, at: usize, next: usize) -> Option<usize>
     requires place { IsPlace text.now at }
     requires hyphen { Reads text.now at 45 next }
@@ -41,7 +41,7 @@ fn letter_or_digit_at(text: &str, at: usize, next: usize) -> Option<usize>
     }
 }
 
-/// The end of a tag, from behind the first letter or digit of a part after a hyphen.
+/// The end of a tag, read after the first letter or digit of a part that a hyphen begins.
 fn subtags_end(text: &str, from: usize) -> usize
     requires { IsPlace text.now from }
     ensures { PicksAt tag_rest text.now from (Some (TokenKind.LanguageTag, result)) }
@@ -53,7 +53,7 @@ fn subtags_end(text: &str, from: usize) -> usize
     end
 }
 
-/// A language tag, from behind its `@`.
+/// A language tag, read after its `@`.
 pub fn tag_at(text: &str, at: usize) -> Option<(TokenKind, usize)>
     requires { IsPlace text.now at }
     ensures { PicksAt tag_start text.now at result }
@@ -71,7 +71,7 @@ pub fn tag_at(text: &str, at: usize) -> Option<(TokenKind, usize)>
     }
 }
 
-/// The end of a tag, from behind its first letter.
+/// The end of a tag, read after its first letter.
 fn tag_letters_end(text: &str, from: usize) -> usize
     requires { IsPlace text.now from }
     ensures { PicksAt tag_letters text.now from (Some (TokenKind.LanguageTag, result)) }

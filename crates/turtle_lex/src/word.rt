@@ -43,7 +43,7 @@ fn letters_at(
     Some((kind, at))
 }
 
-/// The word that begins with `c` at `at`, behind which `next` is.
+/// The word that begins with `c` at `at`, after which `next` is.
 #[inline(never)]
 pub fn word_at(text: &str, at: usize, c: char, next: usize) -> Option<(TokenKind, usize)>
     requires place { IsPlace text.now at }

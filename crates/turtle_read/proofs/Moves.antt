@@ -532,7 +532,7 @@ collection_other kind leaf chain outer st b n e = plainly kind n ∙ ap (λ v. c
     plainly kinds.CloseRound n = absurd (n refl)
     plainly _ n = refl
 
--- the rest of an item behind its token's first judgement
+-- the rest of an item after its token's first judgement
 abbrev itemed : TokenKind → Leaf → Chain → List Hole → State → Move
 itemed kind leaf chain outer here =
     on (meaning.linked (machine.last_of chain) leaf.at here.blanks (numbered here)) (λ inside. machine.begin_object kind (holes.Item (first_of chain here.blanks) here.blanks) leaf outer inside)

@@ -23,7 +23,7 @@ both : (a b : Bool) → (a && b) ≡ true → (a ≡ true) × (b ≡ true)
 both true b h = (refl, h)
 both false b h = absurd (true≢false (sym h))
 
--- with `:` behind it, it is the scheme
+-- with `:` after it, it is the scheme
 is_scheme : (s rest : List ℕ) → IsScheme s → is_some (scheme_of (s ++ 58 ∷ rest)) ≡ true
 is_scheme s rest h =
     let text : List ℕ = s ++ 58 ∷ rest in

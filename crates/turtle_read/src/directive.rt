@@ -8,7 +8,7 @@ use lv_base::Text;
 use turtle_document::{Expected, Hole};
 use turtle_grammar::TokenKind;
 
-// What comes next behind a directive's IRI.
+// What comes next after a directive's IRI.
 fn after_iri(dot: bool) -> Expected
     ensures { result ≡ document.after_iri dot }
 {

@@ -112,7 +112,7 @@ fn an_outer_chunk(rt: HostRuntime) -> Result<(), Fail> {
     Ok(())
 }
 
-/// A sequence of one event at frame 0, an Object of type 16 with a Chunk behind the key 18.
+/// A sequence of one event at frame 0, an Object of type 16 with a Chunk after the key 18.
 const CHUNK_WITHIN: [u8; 64] = [
     56, 0, 0, 0, 10, 0, 0, 0, 0, 0, 0, 0, 0, 0, 0, 0, 0, 0, 0, 0, 0, 0, 0, 0, 32, 0, 0, 0, 9, 0, 0,
     0, 0, 0, 0, 0, 16, 0, 0, 0, 18, 0, 0, 0, 0, 0, 0, 0, 3, 0, 0, 0, 11, 0, 0, 0, 1, 2, 3, 0, 0, 0,

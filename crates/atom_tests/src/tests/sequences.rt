@@ -44,7 +44,7 @@ fn merge_both(forge: &mut Forge, first: AtomView<'_>, second: AtomView<'_>) -> R
     Ok(written)
 }
 
-/// Merges two events at one time, and one behind them.
+/// Merges two events at one time, and one after them.
 fn merge_three(forge: &mut Forge) -> Option<u32> {
     let Ok(first) = read(&FIRST) else {
         return None;
@@ -98,7 +98,7 @@ fn no_room_for_the_set(rt: HostRuntime) -> Result<(), Fail> {
     Ok(())
 }
 
-/// Whether a merger takes one more view behind so many.
+/// Whether a merger takes one more view after so many.
 fn takes_another(count: usize) -> bool {
     let Ok(view) = read(&EMPTY) else {
         return false;

@@ -173,7 +173,7 @@ fn plans(rt: HostRuntime) -> Result<(), Fail> {
     assert_table(&rt, rt.alloc(), PLANNED)
 }
 
-/// A session with as many instances and cables as there may be: each instance is fed by the eight behind it, and the first by the
+/// A session with as many instances and cables as there may be: each instance is fed by the eight after it, and the first by the
 /// last again and again.
 fn widest(alloc: Global) -> Result<String, AllocError> {
     let mut script = String::from_str(alloc, "lv2fx 1\n")?;

@@ -1,4 +1,4 @@
-//! The usual amplifier, with some lines left out and others put behind them.
+//! The usual amplifier, with some lines left out and others put after them.
 ghost use Rattle.std.specs.Prelude.{◌≡◌, ◌≤◌, ◌^◌, IfOk};
 ghost use Rattle.triple_store.specs.Triples.{blanks_of_term, blanks_of_triple};
 
@@ -171,7 +171,7 @@ pub(super) fn broken(alloc: Global, store: &Store, block: u32) -> Result<String,
     answer_text(alloc, &answer)
 }
 
-/// What stands before and behind a line's first `|`.
+/// What stands before and after a line's first `|`.
 pub(super) fn cut(line: &str) -> (&str, &str) {
     let (front, rest) = line.split_once('|').unwrap_or((line, ""));
     (front.trim(), rest.trim())

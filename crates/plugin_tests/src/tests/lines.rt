@@ -119,7 +119,7 @@ fn fill(alloc: Global, store: &mut Store) -> Result<(), Fail> {
     add_iri(alloc, store, "urn:a", PLUGIN)
 }
 
-/// The IRIs, each with a space behind it.
+/// The IRIs, each with a space after it.
 fn joined(alloc: Global, uris: &[Text]) -> Result<String, Fail> {
     let mut all = String::new(alloc);
     for uri in uris {

@@ -174,7 +174,7 @@ fn sessions_that_are_refused(rt: HostRuntime) -> Result<(), NoMemory> {
 }
 
 // This call on the vault fails, and so does the command. So many of the files are written; a vault in memory leaves the
-// one that it fails to write as it was, like those behind it.
+// one that it fails to write as it was, like those after it.
 fn fails_at<R: Abort + AllocGlobal>(
     rt: &R,
     call: u64,

@@ -5,7 +5,7 @@ use Rattle.plugin_list.specs.Plugins.{plugins_of}
 use Rattle.host_main.specs.Listing.{declared_lines, IsDeclared}
 use Rattle.host_main.proofs.checking.plugins.push_plugins.Given as goal
 
--- the plug-ins so far break no rule, and their lines stand behind the number of all
+-- the plug-ins so far break no rule, and their lines stand after the number of all
 abbrev pub invariant-loop-uri : goal.invariant-loop-uri
 invariant-loop-uri l = record {
   same : l.uri-items ≡ plugins_of l.store;
