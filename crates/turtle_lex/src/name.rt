@@ -26,7 +26,7 @@ pub fn name_end(text: &str, from: usize) -> usize
     last
 }
 
-/// A blank node's label, from after its `_:`.
+/// A blank node's label, read after its `_:`.
 pub fn label_at(text: &str, at: usize) -> Option<(TokenKind, usize)>
     requires { IsPlace text.now at }
     ensures { PicksAt label_start text.now at result }

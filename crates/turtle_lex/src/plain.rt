@@ -73,7 +73,7 @@ fn underscore_at(text: &str, at: usize) -> Option<(TokenKind, usize)>
     }
 }
 
-/// A name, from after the first letter of its prefix.
+/// A name, read after the first letter of its prefix.
 #[inline(always)]
 fn prefix_at(text: &str, at: usize) -> Option<(TokenKind, usize)>
     requires { IsPlace text.now at }
