@@ -1,5 +1,5 @@
 -- What an actor has left after its own steps, by what the last of them is about.
-use Rattle.std.proofs.Common.{◌≡◌, List, ◌∷◌, Some, refl, sym, ap, ◌∙◌, ⊎_elim, eq-eqb, ne_eqb}
+use Rattle.std.proofs.Common.{◌≡◌, List, ◌∷◌, Some, refl, sym, ap, ◌∙◌, ⊎_elim, is_some, eq-eqb, ne_eqb}
 use Rattle.std.proofs.lemmas.Bool.{cond-true, cond-false, cases_Bool}
 use Rattle.step_law.specs.declared.actor.Actor.{Actor}
 use Rattle.step_law.specs.declared.entry.Entry.{Entry}
