@@ -1,13 +1,14 @@
 ghost use Rattle.std.specs.Prelude.{◌≤◌, IfOk};
 ghost use Rattle.record_terms.specs.Session.{IsSession};
 
+use judged_log::{JudgedLog, followed_is_lawful};
 use lv_base::{Items, NoMemory};
 use record_law::{Shape, ShapeInst};
 use record_legal::{Illegal, legal};
 use std::alloc::Global;
 use std::process::Abort;
 use std::test::Fail;
-use step_record::read;
+use step_record::{Record, read};
 
 /// Three blocks of a plug-in that schedules a job in each, on one thread.
 const JOBS: &str = "lv2fx-record 1
@@ -211,4 +212,30 @@ fn looks_and_takes_are_bounded(rt: HostRuntime) -> Result<(), Fail> {
     assert_verdict(&rt, rt.alloc(), 3, blind.as_str(), "15 Look")?;
     let idle = JOBS.replace(rt.alloc(), "W1 send R0\n", "")?;
     assert_verdict(&rt, rt.alloc(), 3, idle.as_str(), "15 Ring")
+}
+
+/// A log that took all entries of a record, one after the other.
+fn taken(alloc: Global, shape: &Shape, steps: &Record) -> Result<JudgedLog, Fail>
+    requires { IsSession shape.now }
+{
+    let mut log = JudgedLog::new(alloc, shape)?;
+    for entry in steps.entries() {
+        if log.mark(shape, *entry).is_err() {
+            return Err(Fail::new("refused"));
+        }
+    }
+    Ok(log)
+}
+
+#[test]
+fn a_log_takes_a_lawful_record(rt: HostRuntime) -> Result<(), Fail> {
+    let alloc = rt.alloc();
+    let shape = session(alloc, 3)?;
+    let steps = read(alloc, JOBS.as_bytes())?;
+    let log = taken(alloc, &shape, &steps)?;
+    let made = log.to_record(alloc)?;
+    assert!(&rt; log.has_ended());
+    assert_eq!(&rt; made.entries().len(), steps.entries().len());
+    followed_is_lawful();
+    Ok(())
 }

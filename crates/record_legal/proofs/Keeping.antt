@@ -1,12 +1,14 @@
 -- What a judge needs of an entry that has a form, and of one that breaks no rule.
 use Rattle.std.proofs.Common.{ltb-true, leb-true, ◌≡◌, ◌+◌, ◌*◌, ◌&&◌, Bool, true, false, List, [], ◌∷◌, length, Option, Some, None, refl, sym, ap, subst, ◌∙◌, arith, true≢false}
 use Rattle.std.proofs.lemmas.Option.{none-some}
-use Rattle.std.specs.Prelude.{unwrap_or, is_some, nat_le, nat_lt, not, IfSome}
+use Rattle.std.specs.Prelude.{unwrap_or, is_some, nat_le, nat_lt, IfSome, Result, Ok, Err, IfOk}
 use Rattle.std.specs.Option.{option_map}
+use Rattle.std.specs.Result.{result_err}
 use Rattle.step_law.specs.declared.entry.Entry.{Entry}
 use Rattle.step_law.specs.declared.entry.Kind.{Kind}
 use Rattle.step_law.specs.declared.entry.Kind.TheVariants.{Take, Send}
 use Rattle.step_law.specs.Ring.{ring_at}
+use Rattle.record_law.specs.declared.shape.Broken.{Broken}
 use Rattle.record_law.specs.declared.shape.Broken.TheVariants as rule
 use Rattle.record_law.specs.declared.shape.Shape.{Shape}
 use Rattle.record_law.specs.History.{waiting}
@@ -89,10 +91,6 @@ about_meant s h e follows about is some =
 
 -- ---- what the judge keeps after an entry
 
-pub none_of : {X : Type 0} (it : Option X) (is_none : Bool) → is_some it ≡ not is_none → is_none ≡ true → it ≡ None
-none_of None is_none says none = refl
-none_of (Some x) is_none says none = absurd (true≢false (says ∙ ap not none))
-
 -- a tracker goes on by an entry that is about something
 pub goes_as : (s : Shape) (before after : Tracker) (brought : Message) (e : Entry) (answer : Option Message) (about : Message) → answer ≡ Some about
     → Goes s before after brought e answer → GoesOn s before after brought e
@@ -103,10 +101,19 @@ pub about_there : (s : Shape) (answer : Option Message) (about : Message) → If
 about_there s None about there is = subst (IsThere s) (sym is) tt
 about_there s (Some it) about there is = subst (IsThere s) (sym is) there
 
+-- what is noted of an entry is what it is about
+pub meant_as : (s : Shape) (h : History) (e : Entry) (answer : Option Message) (noted about : Message) → IsFollowing s h e answer → answer ≡ Some about
+    → noted ≡ unwrap_or answer Nothing → meaning_of noted ≡ about_in (follow_in s h e)
+meant_as s h e answer noted about follows is same =
+    ap meaning_of (same ∙ ap (λ (it : Option Message). unwrap_or it Nothing) is) ∙ about_meant s h e answer about follows is
+
 -- and the history goes on by it
 pub noted_as : (s : Shape) (h : History) (e : Entry) (answer : Option Message) (noted about : Message) → IsFollowing s h e answer → answer ≡ Some about
     → noted ≡ unwrap_or answer Nothing → step_of e noted ∷ h ≡ done_in s h e
 noted_as s h e answer noted about follows is same =
-    let meant : meaning_of noted ≡ about_in (follow_in s h e) =
-    ap meaning_of (same ∙ ap (λ (it : Option Message). unwrap_or it Nothing) is) ∙ about_meant s h e answer about follows is in
-    ap (λ (it : Meant). record { entry = e; about = it } ∷ h) meant
+    ap (λ (it : Meant). record { entry = e; about = it } ∷ h) (meant_as s h e answer noted about follows is same)
+
+-- what holds where an entry breaks no rule
+pub if_none_broken : {P : Type 0} (result : Result Message Broken) → IfOk result (λ about. P) → result_err result ≡ None → P
+if_none_broken (Ok about) holds none = holds
+if_none_broken (Err broken) holds none = absurd (none-some broken (sym none))

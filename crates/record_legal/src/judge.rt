@@ -1,10 +1,12 @@
 ghost use Rattle.std.specs.Prelude.{◌≡◌, ◌<◌, ◌^◌, [], length, IfOk, Some, None, true};
+ghost use Rattle.std.specs.Result.{result_err};
 ghost use Rattle.record_law.specs.Message.{History};
 ghost use Rattle.record_law.specs.Protocol.{done_in};
 ghost use Rattle.record_law.specs.Rules as rules;
 ghost use Rattle.record_law.specs.There.{has_form};
 ghost use Rattle.record_terms.specs.Session.{IsSession};
-ghost use Rattle.record_legal.specs.Judging.{IsJudge, Judged, HasJudged};
+ghost use Rattle.order_base.specs.There.{IsThere};
+ghost use Rattle.record_legal.specs.Judging.{IsJudge, Judged, HasJudged, IsAbout};
 
 use lv_base::NoMemory;
 use record_counts::has_form;
@@ -46,28 +48,48 @@ impl Judge {
         ensures judge { result ≡ None → IsJudge shape.now self.new }
         ensures judged { (h : History) → length h < 2 ^ 63 → result ≡ None → Judged shape.now h self.old → Judged shape.now (done_in shape.now h entry) self.new }
     {
+        self.follow(shape, entry).err()
+    }
+
+    /// What an entry is about, where it breaks no rule; then the judge goes on by it. Else the first rule that it breaks, after which the
+    /// judge stands for no history.
+    pub fn follow(&mut self, shape: &Shape, entry: Entry) -> Result<Message, Broken>
+        requires session { IsSession shape.now }
+        requires judge { IsJudge shape.now self.old }
+        requires judged { HasJudged shape.now self.old }
+        ensures broken { (h : History) → length h < 2 ^ 63 → Judged shape.now h self.old → result_err result ≡ rules.first_broken shape.now h entry }
+        ensures about { IfOk result (λ about. (h : History) → length h < 2 ^ 63 → Judged shape.now h self.old → IsAbout shape.now h entry about) }
+        ensures there { IfOk result (IsThere shape.now) }
+        ensures judge { IfOk result (λ about. IsJudge shape.now self.new) }
+        ensures judged { IfOk result (λ about. (h : History) → length h < 2 ^ 63 → Judged shape.now h self.old → Judged shape.now (done_in shape.now h entry) self.new) }
+    {
         if has_form(shape, entry) {
-            self.judge_formed(shape, entry)
+            self.follow_formed(shape, entry)
         } else {
-            Some(Broken::Syntax)
+            Err(Broken::Syntax)
         }
     }
 
-    fn judge_formed(&mut self, shape: &Shape, entry: Entry) -> Option<Broken>
+    fn follow_formed(&mut self, shape: &Shape, entry: Entry) -> Result<Message, Broken>
         requires session { IsSession shape.now }
         requires judge { IsJudge shape.now self.old }
         requires judged { HasJudged shape.now self.old }
         requires form { has_form shape.now entry ≡ true }
-        ensures broken { (h : History) → length h < 2 ^ 63 → Judged shape.now h self.old → result ≡ rules.first_broken shape.now h entry }
-        ensures judge { result ≡ None → IsJudge shape.now self.new }
-        ensures judged { (h : History) → length h < 2 ^ 63 → result ≡ None → Judged shape.now h self.old → Judged shape.now (done_in shape.now h entry) self.new }
+        ensures broken { (h : History) → length h < 2 ^ 63 → Judged shape.now h self.old → result_err result ≡ rules.first_broken shape.now h entry }
+        ensures about { IfOk result (λ about. (h : History) → length h < 2 ^ 63 → Judged shape.now h self.old → IsAbout shape.now h entry about) }
+        ensures there { IfOk result (IsThere shape.now) }
+        ensures judge { IfOk result (λ about. IsJudge shape.now self.new) }
+        ensures judged { IfOk result (λ about. (h : History) → length h < 2 ^ 63 → Judged shape.now h self.old → Judged shape.now (done_in shape.now h entry) self.new) }
     {
         let brought = self.queues.brought(entry);
         let follows = self.tracker.step(shape, entry, brought);
-        let broken = self.counts.judge(shape, entry, follows);
-        if broken.is_none() {
-            self.queues.note(entry, follows.unwrap_or(Message::Nothing));
+        match self.counts.judge(shape, entry, follows) {
+            Some(rule) => Err(rule),
+            None => {
+                let about = follows.unwrap_or(Message::Nothing);
+                self.queues.note(entry, about);
+                Ok(about)
+            }
         }
-        broken
     }
 }
