@@ -4,5 +4,6 @@ pub mod Stable
 pub mod Picks
 pub mod Merging
 pub mod Holding
+pub mod Listing
 pub mod Putting
 pub mod Unique

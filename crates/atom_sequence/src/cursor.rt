@@ -28,7 +28,7 @@ impl<'a> Cursor<'a> {
     }
 
     /// The events that bytes spell.
-    fn over(rest: &'a [u8]) -> Self
+    pub fn over(rest: &'a [u8]) -> Self
         requires { ∥ AreEvents rest.now ∥₁ }
         ensures { (events : List Event) → SpellEvents rest.entry.now (as_parts events) → HasLeft result events }
     {
@@ -76,8 +76,8 @@ impl<'a> Cursor<'a> {
     }
 }
 
-/// Writes an event, if there is room for its time and its atom.
-fn put_event(into: &mut Forge, time: i64, atom: AtomView<'_>) -> Result<(), NoRoom>
+/// Writes an event, if there is room for its time and its atom, and else nothing.
+pub fn put_event(into: &mut Forge, time: i64, atom: AtomView<'_>) -> Result<(), NoRoom>
     requires awaits { AwaitsEvent into.old }
     requires atom { ∥ ((value : Value) × IsAtomOf atom value) ∥₁ }
     ensures event { (value : Value) → IsAtomOf atom.entry value → PutsEvent into.old (record { time = time; value = value }) result into.new }

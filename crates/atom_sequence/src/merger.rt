@@ -99,7 +99,7 @@ fn begin<'a>(cursors: &mut [Cursor<'a>], views: &[AtomView<'a>])
 }
 
 /// Writes the earliest event that is left, again and again, while there is one and it has room. It gives their number.
-fn merge(cursors: &mut [Cursor<'_>], into: &mut Forge) -> u32
+pub fn merge(cursors: &mut [Cursor<'_>], into: &mut Forge) -> u32
     requires left { ∥ ((lists : List (List Event)) × HaveLeft cursors.old lists) ∥₁ }
     requires awaits { AwaitsEvent into.old }
     ensures events { (lists : List (List Event)) → HaveLeft cursors.old lists → EachNeverFalls lists → into.new ≡ with_events into.old (merged (left into.old) lists) }
