@@ -1,0 +1,5 @@
+mod atoms;
+mod messages;
+mod notices;
+mod properties;
+mod texts;
