@@ -1,0 +1,2 @@
+mod setups;
+mod summaries;
