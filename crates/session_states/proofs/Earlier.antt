@@ -1,5 +1,5 @@
 -- State files that are read one after another, and what is said of a vault from its first state on.
-use Rattle.std.proofs.Common.{◌≡◌, ℕ, ◌+◌, ◌<◌, ◌≤◌, List, [], ◌∷◌, ◌++◌, length, map, get_or, Result, Ok, Err, IfOk, IfErr, refl, ap, sym, subst, ◌∙◌, arith, add-one}
+use Rattle.std.proofs.Common.{◌≡◌, ℕ, zero, suc, ◌+◌, ◌<◌, ◌≤◌, List, [], ◌∷◌, ◌++◌, length, map, get_or, Result, Ok, Err, IfOk, IfErr, refl, ap, sym, subst, ◌∙◌, arith, add-one}
 use Rattle.std.proofs.lemmas.List.{get_or_default}
 use Rattle.lv_outside.specs.Count.{Rose}
 use Rattle.lv_outside.specs.World.{VaultState}
@@ -153,3 +153,46 @@ has_states v session restores paths urids after files states r p read e = record
       (subst (λ (ps : List (List ℕ)). GiveStates v restores ps urids (length ps) files after) p read);
   given = e ∙ ap (λ (ps : List (List ℕ)). map (restored ps files) restores) p ∙ ap (λ (rs : List Restore). map (restored (paths_of session) files) rs) r;
 }
+
+-- ---- all files of a vault that is a later one
+
+give-earlier : (v m : VaultState) (restores : List Restore) (paths urids : List (List ℕ)) (number : ℕ) (files : List (List Saved)) (after : List (List ℕ)) → IsLater v m
+    → GiveStates m restores paths urids number files after → GiveStates v restores paths urids number files after
+give-earlier v m restores paths urids zero files after h x = x
+give-earlier v m restores paths urids (suc number) files after h x = (
+  x.0,
+  x.1,
+  x.2,
+  give-earlier v m restores paths urids number x.0 x.2 h x.3,
+  gives-earlier v m restores number (path_at paths number) x.2 x.1 after h x.4,
+  x.5,
+)
+
+stops-earlier : (v m v' : VaultState) (restores : List Restore) (paths urids : List (List ℕ)) (fault : StatesFault) → IsLater v m
+    → StopsAt m v' restores paths urids fault → StopsAt v v' restores paths urids fault
+stops-earlier v m v' restores paths urids fault h s = record {
+  number = s.number;
+  within = s.within;
+  files = s.files;
+  between = s.between;
+  before = give-earlier v m restores paths urids s.number s.files s.between h s.before;
+  refused = refused-earlier v m v' restores s.number (path_at paths s.number) s.between fault h s.refused;
+}
+
+pub states-earlier : (v m : VaultState) (session : Session) (urids : List (List ℕ)) (states : List (List (ℕ × Prop))) (after : List (List ℕ)) → IsLater v m
+    → HasStates m session urids states after → HasStates v session urids states after
+states-earlier v m session urids states after h x = record {
+  files = x.files;
+  read = give-earlier v m (restores_of session) (paths_of session) urids (length (paths_of session)) x.files after h x.read;
+  given = x.given;
+}
+
+pub no-states-earlier : (v m v' : VaultState) (session : Session) (urids : List (List ℕ)) (fault : StatesFault) → IsLater v m
+    → HasNoStates m v' session urids fault → HasNoStates v v' session urids fault
+no-states-earlier v m v' session urids (Load (Missing at)) h x = stops-earlier v m v' (restores_of session) (paths_of session) urids (Load (Missing at)) h x
+no-states-earlier v m v' session urids (Load (ReadFailed at)) h x = stops-earlier v m v' (restores_of session) (paths_of session) urids (Load (ReadFailed at)) h x
+no-states-earlier v m v' session urids (Load (TooLong at)) h x = stops-earlier v m v' (restores_of session) (paths_of session) urids (Load (TooLong at)) h x
+no-states-earlier v m v' session urids (Load (Turtle at why)) h x = stops-earlier v m v' (restores_of session) (paths_of session) urids (Load (Turtle at why)) h x
+no-states-earlier v m v' session urids (Load NoMemory) h x = tt
+no-states-earlier v m v' session urids (Broken at rule) h x = stops-earlier v m v' (restores_of session) (paths_of session) urids (Broken at rule) h x
+no-states-earlier v m v' session urids UridFull h x = stops-earlier v m v' (restores_of session) (paths_of session) urids UridFull h x
