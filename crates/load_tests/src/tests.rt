@@ -1,13 +1,19 @@
 //! What loading a session answers, as a text: the plug-ins' names and the plan, or the first fault.
+ghost use Rattle.graph_order.specs.Setup.{IsReady};
+
 use graph_order::{GraphFault, Setup};
 use lv_base::{Bytes, Items, Text};
 use lv_outside::MemVault;
 use plugin_decl::{Decl, DeclFault};
 use session_setup::{Loaded, SetupFault, load, one_newest, one_setup, some_setup};
+use setup_shape::shape_of;
+use state_store::Props;
 use std::alloc::Global;
 use std::process::Abort;
 use std::test::Fail;
 use stock_codes::Stock;
+use urid_map::Urids;
+use whole_setup::{WholeFault, load_bytes, one_whole, some_whole};
 
 /// Two instances of one plug-in, after four bundles, in the file that tests load.
 const TWICE: &str =
@@ -32,6 +38,13 @@ const STOCK: &str =
 /// A circle over two of three stock codes.
 const CIRCLE: &str =
     "s lv2fx 1 / block 1 / blocks 4 / inst c urn:lv2fx:const / inst a urn:lv2fx:mix / inst b urn:lv2fx:amp / set c value 0.25 / set b gain 0.5 / cable c out a a / cable a out b in / cable b out a b";
+
+/// A session that restores a state of tank.
+const RESTORES: &str = "s lv2fx 1 / blocks 3 / inst t urn:lv2fx:tank / at 1 restore t s.ttl 0";
+
+/// A file with one state of tank, whose level is one half.
+const STATE: &str =
+    "\ns.ttl @prefix state: <http://lv2plug.in/ns/ext/state#> . @prefix fx: <urn:lv2fx:> . <#save0> a fx:Saved ; fx:name \"t\" ; fx:plugin <urn:lv2fx:tank> ; state:state [ fx:level [ fx:type fx:Fixed ; fx:flags 3 ; fx:bytes \"AACAAAAAAAA=\" ] ] .";
 
 /// A file's bytes: its lines, with ` / ` between them.
 fn lines(alloc: Global, text: &str) -> Result<Bytes, Fail> {
@@ -255,4 +268,110 @@ fn every_stock_code_is_declared(rt: HostRuntime) -> Result<(), Fail> {
         STOCK,
         "ok Constant Amplifier Mixer Echo Fetch Burst Keep 0 1 2 3 4 5 6",
     )
+}
+
+/// The third byte of the level, the one that one half has above 0.
+fn level(props: &Props) -> Option<u8> {
+    let level = props.retrieve(26)?;
+    level.bytes.as_slice().get(2).copied()
+}
+
+/// The levels that are restored.
+fn levels_text(alloc: Global, setup: &Setup) -> Result<String, Fail> {
+    let mut text = String::from_str(alloc, "levels")?;
+    for props in setup.states.as_slice() {
+        let level = format!(in alloc; "{:?}", level(props))?;
+        push(&mut text, &level)?;
+    }
+    Ok(text)
+}
+
+fn whole_text(alloc: Global, answer: &Result<Setup, WholeFault>) -> Result<String, Fail> {
+    match answer {
+        Ok(setup) => levels_text(alloc, setup),
+        Err(WholeFault::Setup(fault)) => fault_text(alloc, fault),
+        Err(WholeFault::States(fault)) => Ok(format!(in alloc; "{fault}")?),
+    }
+}
+
+fn whole_over(alloc: Global, vault: &mut MemVault) -> Result<String, Fail> {
+    let path = Text::from_str(alloc, "s")?;
+    let mut urids = Urids::new(alloc)?;
+    let answer = whole_setup::load(alloc, &path, vault, &Stock, &mut urids);
+    whole_text(alloc, &answer)
+}
+
+/// Whether the session in the file `s`, with its states, answers so.
+fn restores(rt: &impl Abort, alloc: Global, files: &str, wanted: &str) -> Result<(), Fail> {
+    let mut vault = vault_of(alloc, files, &[])?;
+    let text = whole_over(alloc, &mut vault)?;
+    assert_eq!(rt; text.as_str(), wanted, "{files}");
+    Ok(())
+}
+
+#[test]
+fn a_session_with_its_states(rt: HostRuntime) -> Result<(), Fail> {
+    let alloc = rt.alloc();
+    one_whole();
+    some_whole();
+    let files = format!(in alloc; "{RESTORES}{STATE}")?;
+    restores(&rt, alloc, &files, "levels Some(128)")?;
+    let files = format!(in alloc; "{RESTORES} / at 2 restore t s.ttl 1{STATE}")?;
+    restores(&rt, alloc, &files, "state s.ttl: count")?;
+    restores(&rt, alloc, RESTORES, "missing s.ttl")
+}
+
+#[test]
+fn bundles_before_states(rt: HostRuntime) -> Result<(), Fail> {
+    let alloc = rt.alloc();
+    let files =
+        "s lv2fx 1 / blocks 3 / bundle one / inst t urn:lv2fx:tank / at 1 restore t s.ttl 0";
+    restores(&rt, alloc, files, "missing one/manifest.ttl")
+}
+
+#[test]
+fn a_session_of_bytes(rt: HostRuntime) -> Result<(), Fail> {
+    let alloc = rt.alloc();
+    let mut vault = vault_of(alloc, "", &[])?;
+    let mut urids = Urids::new(alloc)?;
+    let answer = load_bytes(alloc, b"lv2fx 1\n", &mut vault, &Stock, &mut urids);
+    let text = whole_text(alloc, &answer)?;
+    assert_eq!(rt; text.as_str(), "levels");
+    Ok(())
+}
+
+/// Of each instance its worker, and whether it schedules work and answers messages.
+fn shape_text(alloc: Global, setup: &Setup) -> Result<String, Fail>
+    requires { IsReady setup.now }
+{
+    let shape = shape_of(alloc, setup)?;
+    let mut text = String::from_str(alloc, "shape")?;
+    for inst in shape.insts.as_slice() {
+        let part = format!(in alloc; "{} {} {}", inst.worker, inst.works, inst.replies)?;
+        push(&mut text, &part)?;
+    }
+    Ok(text)
+}
+
+fn shape_over(alloc: Global, vault: &mut MemVault) -> Result<String, Fail> {
+    let path = Text::from_str(alloc, "s")?;
+    let mut urids = Urids::new(alloc)?;
+    match whole_setup::load(alloc, &path, vault, &Stock, &mut urids) {
+        Ok(setup) => shape_text(alloc, &setup),
+        Err(_) => Err(Fail::new("no setup")),
+    }
+}
+
+#[test]
+fn a_session_and_its_shape(rt: HostRuntime) -> Result<(), Fail> {
+    let alloc = rt.alloc();
+    let files =
+        "s lv2fx 1 / workers 2 / inst f urn:lv2fx:fetch / inst t urn:lv2fx:tank / inst k urn:lv2fx:keep";
+    let mut vault = vault_of(alloc, files, &[])?;
+    let text = shape_over(alloc, &mut vault)?;
+    assert_eq!(&rt;
+        text.as_str(),
+        "shape 1 true false 2 true true 1 false false"
+    );
+    Ok(())
 }

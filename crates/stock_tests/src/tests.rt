@@ -1,4 +1,5 @@
 mod bench;
+mod called;
 mod declared;
 mod played;
 mod refused;

@@ -3,32 +3,36 @@ ghost use Rattle.std.specs.Prelude.{◌≡◌, ◌<◌, ◌≤◌, true, ℕ, le
 ghost use Rattle.plugin_decl.specs.declared.declaration.Port.{Port};
 ghost use Rattle.plugin_decl.specs.Valid.{IsValid};
 ghost use Rattle.plug_api.specs.Buffers.{forge_at};
-ghost use Rattle.plug_api.specs.Calls.{CanCall};
 ghost use Rattle.plug_api.specs.Ports.{outs_of, IsSameLoan};
 ghost use Rattle.plug_api.specs.Roles.{has_atom};
 ghost use Rattle.plug_api.specs.Sequences.{IsSequence};
-ghost use Rattle.step_record.specs.Count.{tickets_left};
 ghost use Rattle.stock_tests.specs.Bench.{frames, IsBench, HasEvents, AreOuts, Lends, HaveOuts};
 
 use super::declared::declared;
 use arrayvec::ArrayVec;
-use instance_class::{BackOf, FrontOf, Made, make};
+use instance_class::{BackOf, FrontOf, Made};
+use list_calls::{Caller, activate, make, run};
 use lv_base::{Fixed, NoMemory, Sample};
-use plug_api::{Ins, Outs, Ports, Sched, has_atom};
+use plug_api::{Ins, Outs, Ports, has_atom};
 use plugin_decl::{Decl, Port, options_of};
 use std::alloc::Global;
 use std::test::Fail;
-use step_record::{Count, Log, Marks, Parcel};
+use step_record::{Log, Parcel};
 use stock_codes::Stock;
 use urid_map::Urids;
-use worker_ring::ListSched;
 
 const FRAMES: u32 = 16;
 
-/// The ring of the jobs of instance 0, and how many cells it has.
-const JOBS: u32 = 18;
+/// Who makes and activates instances.
+const CONTROL: u32 = 1;
 
-const CELLS: u32 = 4;
+/// Who plays them, with the ring of the jobs of instance 0.
+const AUDIO: Caller = Caller {
+    actor: 0,
+    ring: 18,
+    cells: 4,
+    works: true,
+};
 
 #[derive(Drop)]
 pub(super) struct Bench {
@@ -84,13 +88,10 @@ fn made(alloc: Global, decl: &Decl) -> Result<Made<Stock>, Fail>
     ensures { IfOk result (λ made. made.ports ≡ decl.now.ports) }
 {
     let mut urids = Urids::new(alloc)?;
-    let mut log = Log::with_room(alloc, 18)?;
-    let mut list: ArrayVec<Parcel, 64> = ArrayVec::new();
-    let mut tickets = Count::from_number(0);
-    let mut marks = ListSched::new(&mut list, CELLS, 1, &mut tickets, &mut log, JOBS, false);
+    let mut log = Log::with_room(alloc, 2)?;
     let options = options_of(FRAMES);
     match make(
-        &Stock, alloc, decl, 0, 48000, &options, &mut urids, &mut marks,
+        &Stock, alloc, decl, 0, 48000, &options, &mut urids, CONTROL, &mut log,
     ) {
         Ok(made) => Ok(made),
         Err(_) => Err(Fail::new("not made")),
@@ -99,14 +100,12 @@ fn made(alloc: Global, decl: &Decl) -> Result<Made<Stock>, Fail>
 
 /// Both parts of a new instance that is active.
 pub(super) fn active(alloc: Global, decl: &Decl) -> Result<(FrontOf<Stock>, BackOf<Stock>), Fail>
-    ensures { IfOk result (λ parts. parts.0.ports ≡ decl.now.ports) }
+    ensures ports { IfOk result (λ parts. parts.0.ports ≡ decl.now.ports) }
+    ensures inst { IfOk result (λ parts. parts.0.inst ≡ parts.1.inst) }
 {
-    let mut log = Log::with_room(alloc, 18)?;
+    let mut log = Log::with_room(alloc, 2)?;
     let made = made(alloc, decl)?;
-    let mut list: ArrayVec<Parcel, 64> = ArrayVec::new();
-    let mut tickets = Count::from_number(0);
-    let mut marks = ListSched::new(&mut list, CELLS, 1, &mut tickets, &mut log, JOBS, false);
-    Ok(made.activate(&mut marks))
+    Ok(activate(made, CONTROL, &mut log))
 }
 
 fn places(alloc: Global, count: u32) -> Result<Vec<u32>, NoMemory>
@@ -151,20 +150,22 @@ fn takes_first(ports: &[Port]) -> bool
 }
 
 /// Plays a block over the ports of a bench.
-fn run_lent<S: Sched + Marks>(
+fn run_lent(
     front: &mut FrontOf<Stock>,
     decl: &Decl,
     ports: &mut Ports<'_>,
-    sched: &mut S,
+    jobs: &mut ArrayVec<Parcel, 64>,
+    log: &mut Log,
 )
     requires lends { Lends ports.old decl.now }
     requires ports { front.old.ports ≡ decl.now.ports }
-    requires marks { CanCall S.actor_of S.can_mark S.marked S.went sched.old }
+    requires list { length jobs.old.items ≤ 4 }
+    requires spare { 18 ≤ log.old.spare }
     ensures outs { HaveOuts decl.now.ports (outs_of ports.new) }
     ensures same_loan { IsSameLoan ports.old ports.new }
     ensures front { front.new.ports ≡ front.old.ports }
 {
-    front.run(ports, sched);
+    run(front, ports, jobs, AUDIO, log);
 }
 
 /// Plays a block into silent outputs.
@@ -187,10 +188,8 @@ fn run_over(
     ensures outs { HaveOuts bench.now.decl.ports outs.new }
     ensures front { front.new.ports ≡ front.old.ports }
 {
-    let mut tickets = Count::from_number(0);
-    let mut sched = ListSched::new(list, CELLS, 0, &mut tickets, log, JOBS, true);
     let mut ports = Ports::over(bench.decl.ports.as_slice(), &bench.ins, of, outs);
-    run_lent(front, &bench.decl, &mut ports, &mut sched);
+    run_lent(front, &bench.decl, &mut ports, list, log);
 }
 
 /// Plays a block.
