@@ -1,7 +1,8 @@
 -- The token of an actor that has done nothing.
-use Rattle.std.proofs.Common.{◌≡◌, ℕ, zero, suc, ◌+◌, ◌≤◌, List, [], ◌∷◌, ◌++◌, length, replicate, Option, refl, sym, ap, subst, ◌∙◌, ⊎_elim, length-append, arith}
+use Rattle.std.proofs.Common.{◌≡◌, ℕ, zero, suc, ◌+◌, ◌-◌, ◌≤◌, List, [], ◌∷◌, ◌++◌, length, replicate, Option, refl, sym, ap, subst, ◌∙◌, ⊎_elim, length-append, arith}
 use mathlib.Core.Option.{some, some-injective, some-ne-none}
-use lib.ListN.{get_elem?, length-replicate}
+use lib.ListN.{get_elem?, length-replicate, take}
+use lib.Seq.{take-nil}
 use Rattle.atomic_table.specs.Seated.{TableId}
 use Rattle.atomic_table.specs.declared.shared.Seat.{Seat}
 use Rattle.cable_trace.specs.declared.trace.Pending.TheVariants.{Idle}
@@ -24,6 +25,13 @@ replicate-at (suc n) (suc i) a b e = replicate-at n i a b e
 
 abbrev pub no_count : Count
 no_count = record { sent = 0; shown = 0; taken = 0 }
+
+-- filling up an empty list
+pub filled_up : (counts : List Count) (len n : ℕ) → counts ≡ [] → len ≡ 0 → take n counts ++ replicate (n - len) no_count ≡ replicate n no_count
+filled_up counts len n none zero-long = (λ i. take n (none i) ++ replicate (n - zero-long i) no_count) ∙ (λ i. take-nil {A = Count} n i ++ replicate (same i) no_count)
+  where
+    same : n - 0 ≡ n
+    same = omega arith
 
 module _ {M : Type 0} (table : TableId) (plan : Plan) (actor : ℕ) where
   abbrev pub Begun : Seated M

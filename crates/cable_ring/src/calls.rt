@@ -1,7 +1,8 @@
 //! The steps of an actor's calls, over its seat of the table.
-ghost use Rattle.std.specs.Prelude.{◌≡◌, ℕ, suc, ◌+◌, ◌<◌, ◌≤◌, [], ◌∷◌, length, List, IfOk, IfErr, MatchOption, All};
+ghost use Rattle.std.specs.Prelude.{◌≡◌, ℕ, suc, ◌+◌, ◌<◌, ◌≤◌, [], ◌∷◌, length, List, Option, None, IfOk, IfErr, MatchOption, All};
 ghost use mathlib.Core.Option.{some};
 ghost use lib.ListN.{get_elem?};
+ghost use Rattle.atomic_table.specs.Table.{rest};
 ghost use Rattle.cable_trace.specs.Trace.{sent, shown, taken};
 ghost use Rattle.cable_trace.specs.declared.trace.Action.TheVariants.{Marked, Sent, Refused, Looked, Taken, Stored, Loaded};
 ghost use Rattle.cable_trace.specs.Beat.{stores};
@@ -94,6 +95,16 @@ pub(crate) fn look_on<M>(top: &Top<M>, place: &mut Place<M>, ring: u32) -> (u64,
     (tail, ticket)
 }
 
+// Moves the message out of the cell that the actor has. The cell is emptied where it lies: an exchange would copy an empty one into it.
+fn emptied<M>(top: &Top<M>, place: &mut Place<M>, slot: usize) -> Option<M>
+    requires { (place.old.table_id ≡ top.now.table_id) × ((held : Option M) × (place.old.me.1 ≡ (slot, held) ∷ rest place.old.me.1)) }
+    ensures same { (place.new.table_id ≡ place.old.table_id) × (place.new.id ≡ place.old.id) }
+    ensures was { place.old.me.1 ≡ (slot, result) ∷ rest place.old.me.1 }
+    ensures now { place.new.me ≡ (place.old.me.0, (slot, None) ∷ rest place.old.me.1) }
+{
+    place.slot_mut(top, slot).take()
+}
+
 // A take of the next message that was shown, by an actor that has taken so many messages from the ring.
 pub(crate) fn take_on<M>(
     top: &Top<M>,
@@ -114,7 +125,9 @@ pub(crate) fn take_on<M>(
 {
     top.load::<SeeCell>(place, 16 * ring as usize + 16);
     let slot = slot_of(cells, ring, count);
-    let message = top.exchange(place, slot, None).unwrap();
+    let Some(message) = emptied(top, place, slot) else {
+        unreachable!()
+    };
     let next = count + 1;
     top.store::<StoreHead>(place, 16 * ring as usize + 16, next);
     let ticket = top.fetch_add::<DrawForTake>(place, 0, 1);

@@ -16,6 +16,10 @@ use lv_base::NoMemory;
 use std::alloc::Global;
 use std::mem;
 
+// So many counts more are reserved than are used. They take 72 bytes, more than a line of 64: so no two actors' counts lie on one line, which
+// the processors would take from each other at each call.
+const APART: usize = 3;
+
 // Hands out the passes of all actors, in order.
 fn hand_out<M: Drop>(
     alloc: Global,
@@ -31,13 +35,15 @@ fn hand_out<M: Drop>(
     ensures passes { IfOk result (λ passes. AreOpened top.now.table_id (plan_of layout.now) layout.now.actors passes.items) }
 {
     let mut passes = Vec::with_capacity(alloc, layout.actors as usize)?;
+    let rings = layout.rings.len();
     for actor in 0..layout.actors {
         let none = Count {
             sent: 0,
             shown: 0,
             taken: 0,
         };
-        let counts = Vec::from_elem(alloc, none, layout.rings.len())?;
+        let mut counts = Vec::with_capacity(alloc, rings + APART)?;
+        counts.resize(rings, none)?;
         let place = top.split_seat::<HandOut>(desk);
         passes.push(Pass {
             place,

@@ -8,7 +8,7 @@ use Rattle.cable_ring.specs.Passes.{PassView, pass_at, AreCounts}
 use Rattle.cable_ring.specs.Planned.{plan_of}
 use Rattle.cable_ring.specs.Steps.{Seated, handed_out, next_actor}
 use Rattle.cable_ring.proofs.Opening.{may_hand_out}
-use Rattle.cable_ring.proofs.Beginning.{no_count, begun_pass, begun_resting, begun_sized, begun_counts, opened_none, opened_more}
+use Rattle.cable_ring.proofs.Beginning.{no_count, begun_pass, begun_resting, begun_sized, begun_counts, filled_up, opened_none, opened_more}
 use Rattle.cable_ring.proofs.start.hand_out.Goals as goal
 
 pub split_seat-place-requires : goal.split_seat-place-requires
@@ -27,14 +27,14 @@ invariant_of-push g c = let plan : Plan = plan_of c.args.layout.now in let inv =
     let pass : PassView g.row.M.Denot = pass_at place in
     let is = begun_pass table plan c.loop-actor.actor place of-table begun in
     let none : length pass.events ≡ 0 = ap (λ (q : PassView g.row.M.Denot). length q.events) is in
-    let long : c.len.result ≡ length c.args.layout.now.rings.items = c.len.ensures ∙ c.args.layout.now.rings.ok.0 in
-    let counts : c.in_ok-counts.counts.items ≡ replicate c.len.result no_count = c.in_ok-counts.ensures.items_if_clones_equal (λ y e. search rules) in
+    let long : c.len-rings.result ≡ length c.args.layout.now.rings.items = c.len-rings.ensures ∙ c.args.layout.now.rings.ok.0 in
+    let counts : c.resize.new.self.items ≡ replicate c.len-rings.result no_count = c.in_ok-resize.ensures.items ∙ filled_up c.in_ok-counts.counts.items _ c.len-rings.result c.in_ok-counts.ensures.items c.in_ok-counts.ensures.len in
     record {
       resting = begun_resting table plan c.loop-actor.actor place begun;
       sized = begun_sized table plan c.loop-actor.actor pass is c.requires.limits c.requires.table.1;
       cells_are = ap (λ (q : PassView g.row.M.Denot). q.plan.cells) (sym is);
       left_is = omega arith;
-      counted = subst (λ (l : List Count). AreCounts l pass) (sym counts) (begun_counts table plan c.loop-actor.actor pass c.len.result is long);
+      counted = subst (λ (l : List Count). AreCounts l pass) (sym counts) (begun_counts table plan c.loop-actor.actor pass c.len-rings.result is long);
     }
 
 pub loop-actor-preserved : goal.loop-actor-preserved
