@@ -2,8 +2,7 @@
 use Rattle.std.proofs.Common.{◌≡◌, ℕ, ◌+◌, ◌<◌, ◌≤◌, Bool, true, false, ◌&&◌, if◌then◌else◌, List, [], All, ◌∷◌, ◌++◌, length, get_or, map, Option, Some, None, slice_get, option_map, refl, sym, ap, subst, ◌∙◌, ◌⊎◌, inl, inr, arith}
 use Rattle.std.specs.Option.{option_map_or}
 use Rattle.std.proofs.lemmas.Bool.{false≢true}
-use Rattle.std.specs.Prelude.{slice_set}
-use Rattle.std.proofs.lemmas.List.{length-map, length-set, length_push, length-replicate, get_or_default, same_lists}
+use Rattle.std.proofs.lemmas.List.{length-map, length_push, length-replicate, get_or_default, same_lists}
 use Rattle.std.proofs.lemmas.List.FromFn.{length-map-range_with_len}
 use Rattle.std.proofs.lemmas.Option.{none-some, same_Some, slice_get-map, slice_get-get_or, slice_get_within}
 use Rattle.plugin_decl.specs.declared.declaration.Decl.{Decl}
@@ -11,27 +10,27 @@ use Rattle.plugin_decl.specs.declared.declaration.Port.{Port}
 use Rattle.plugin_decl.specs.Valid as decl
 use Rattle.graph_order.specs.declared.setup.Setup.{Setup}
 use Rattle.graph_order.specs.Setup.{IsReady}
+use Rattle.atom_forge.specs.Forged.{Forged}
 use Rattle.plug_api.specs.Buffers.{Given, block_at, fixed_at}
 use Rattle.plug_api.specs.Roles.{is_sound, is_atom}
-use Rattle.plug_api.specs.Fresh.{fresh_block, fresh_inputs}
+use Rattle.plug_api.specs.Fresh.{fresh_block, fresh_forge, fresh_inputs, input_room}
 use Rattle.plug_api.specs.Signal.{nought}
 use Rattle.plug_api.specs.Sound.{silent}
 use Rattle.session_play.specs.Setup.{ports_of}
 use Rattle.session_play.specs.Signals.{mixed}
 use Rattle.block_signals.specs.declared.inlet.Inlet.{Inlet}
-use Rattle.block_signals.specs.declared.inlets.Inlets.{Inlets}
 use Rattle.block_signals.specs.declared.outlets.Outlets.{Outlets}
 use Rattle.block_signals.specs.declared.source.Input.{Input}
 use Rattle.block_signals.specs.declared.source.Input.TheVariants.{Sound, Events, Still}
 use Rattle.block_signals.specs.Board.{Board, blank}
 use Rattle.block_signals.specs.Given.{value_given}
-use Rattle.block_signals.specs.Inlets.{CanPut, IsPut, IsInlet, HasValues, HasSounds, HoldsInputs, value_set}
+use Rattle.block_signals.specs.Inlets.{CanPut, IsPut, IsInlet, HasValues, HasMessages, HasSounds, Holds, value_set}
 use Rattle.block_signals.specs.Mixing.{heard}
 use Rattle.block_signals.specs.Outlets.{ShowsOutputs}
 use Rattle.block_signals.specs.Places.{places_of}
 use Rattle.block_signals.specs.Sources.{sources_to, input_of}
 use Rattle.block_signals.proofs.Heard.{sound_heard, sources_heard, sources_few}
-use Rattle.block_signals.proofs.Lists.{pushed_get, set_get, item_there, map_at}
+use Rattle.block_signals.proofs.Lists.{pushed_get, item_there, map_at}
 use Rattle.block_signals.proofs.Shown.{decl_valid}
 use Rattle.block_signals.proofs.Sources.{index_of}
 
@@ -53,7 +52,7 @@ indexes_within one valid = λ k d h.
 
 -- ---- what can be put at its inputs
 
-both_first : (a b : Bool) → (a && b) ≡ true → b ≡ true
+pub both_first : (a b : Bool) → (a && b) ≡ true → b ≡ true
 both_first true b h = h
 both_first false b h = absurd (false≢true h)
 
@@ -76,7 +75,7 @@ can_put_one setup board outlets inst inlet i port ready shows is at =
     by false e false = tt
 
 -- the input at a place is that of the port there
-input_there : (setup : Setup) (inst : ℕ) (inlet : Inlet) (i : ℕ) (port : Port) → IsInlet setup inst inlet → slice_get (ports_of setup inst) i ≡ Some port
+pub input_there : (setup : Setup) (inst : ℕ) (inlet : Inlet) (i : ℕ) (port : Port) → IsInlet setup inst inlet → slice_get (ports_of setup inst) i ≡ Some port
     → slice_get inlet.inputs i ≡ Some (input_of setup inst port)
 input_there setup inst inlet i port is at =
     ap (λ inputs. slice_get inputs i) is.inputs ∙ slice_get-map (input_of setup inst) (ports_of setup inst) i ∙ ap (option_map (input_of setup inst)) at
@@ -122,35 +121,12 @@ filled_inlet setup board outlets inst inlet ins ready shows is filled = record {
   frames = ap (λ (it : Given). it.frames) filled.others ∙ is.frames;
   blocks = filled.count ∙ is.blocks;
   whole = λ i port at e. ap length (filled_sounds setup board outlets inst inlet ins ready shows is filled i port at e) ∙ length-map-range_with_len _ 0 setup.session.block;
+  rooms = ap (λ (it : Given). map (λ (forge : Forged). forge.room) it.events) filled.others ∙ is.rooms;
 }
 
-filled_values : (setup : Setup) (board : Board) (outlets : Outlets) (inst : ℕ) (inlet : Inlet) (ins : Given) → IsFilledFrom outlets inlet ins
+pub filled_values : (setup : Setup) (board : Board) (outlets : Outlets) (inst : ℕ) (inlet : Inlet) (ins : Given) → IsFilledFrom outlets inlet ins
     → HasValues setup board inst inlet.ins → HasValues setup board inst ins
 filled_values setup board outlets inst inlet ins filled has = ap (λ (it : Given). it.values) filled.others ∙ has
-
--- ---- those of all instances
-
-pub filled_all : (setup : Setup) (board : Board) (outlets : Outlets) (old new : Inlets) (inst : ℕ) (inlet : Inlet) (ins : Given) → IsReady setup → ShowsOutputs setup board outlets
-    → HoldsInputs setup board old → slice_get old.each.items inst ≡ Some inlet → IsFilledFrom outlets inlet ins
-    → new.each.items ≡ slice_set old.each.items inst (record inlet { ins = ins }) → length new.sums.items ≡ length old.sums.items → HoldsInputs setup board new
-filled_all setup board outlets old new inst inlet ins ready shows holds here filled is sums = record {
-  all = ap length is ∙ length-set old.each.items inst (record inlet { ins = ins }) ∙ holds.all;
-  sums = sums ∙ holds.sums;
-  kept = λ k other at. by k other (set_get old.each.items inst (record inlet { ins = ins }) k other (ap (λ items. slice_get items k) (sym is) ∙ at));
-}
-  where
-    one : IsInlet setup inst (record inlet { ins = ins }) × HasValues setup board inst ins
-    one = (
-      filled_inlet setup board outlets inst inlet ins ready shows (holds.kept inst inlet here).0 filled,
-      filled_values setup board outlets inst inlet ins filled (holds.kept inst inlet here).1,
-    )
-
-    by : (k : ℕ) (other : Inlet) → ((k ≡ inst) × (record inlet { ins = ins } ≡ other)) ⊎ (slice_get old.each.items k ≡ Some other)
-        → IsInlet setup k other × HasValues setup board k other.ins
-    by k other (inr e) = holds.kept k other e
-    by k other (inl e) =
-        let P : ℕ → Inlet → Type 0 = λ n it. IsInlet setup n it × HasValues setup board n it.ins in
-        subst (λ (n : ℕ). P n other) (sym e.0) (subst (P inst) e.1 one)
 
 -- ---- at first
 
@@ -176,24 +152,21 @@ values_first setup inst ins symbols are count each =
 -- one more inlet
 pub record MadeTo (setup : Setup) (items : List Inlet) (n : ℕ) : Type 0 where
   pub count : length items ≡ n
-  pub kept : (inst : ℕ) (inlet : Inlet) → slice_get items inst ≡ Some inlet → IsInlet setup inst inlet × HasValues setup blank inst inlet.ins
+  pub kept : (inst : ℕ) (inlet : Inlet) → slice_get items inst ≡ Some inlet → Holds setup blank inst inlet
 
 pub made_none : (setup : Setup) → MadeTo setup [] 0
 made_none setup = record { count = refl; kept = λ inst inlet e. absurd (none-some inlet e) }
 
 pub made_more : (setup : Setup) (items : List Inlet) (n : ℕ) (inlet : Inlet) → MadeTo setup items n → IsInlet setup n inlet → HasValues setup blank n inlet.ins
-    → MadeTo setup (items ++ inlet ∷ []) (n + 1)
-made_more setup items n inlet made is has = record {
+    → HasMessages setup blank n inlet → MadeTo setup (items ++ inlet ∷ []) (n + 1)
+made_more setup items n inlet made is has keeps = record {
   count = length_push items inlet ∙ ap (λ (k : ℕ). k + 1) made.count;
   kept = λ inst other e. by inst other (pushed_get items inlet inst other e);
 }
   where
-    by : (inst : ℕ) (other : Inlet) → (slice_get items inst ≡ Some other) ⊎ ((inst ≡ length items) × (inlet ≡ other))
-        → IsInlet setup inst other × HasValues setup blank inst other.ins
+    by : (inst : ℕ) (other : Inlet) → (slice_get items inst ≡ Some other) ⊎ ((inst ≡ length items) × (inlet ≡ other)) → Holds setup blank inst other
     by inst other (inl e) = made.kept inst other e
-    by inst other (inr e) =
-        let P : ℕ → Inlet → Type 0 = λ k it. IsInlet setup k it × HasValues setup blank k it.ins in
-        subst (λ (k : ℕ). P k other) (sym (e.0 ∙ made.count)) (subst (P n) e.1 (is, has))
+    by inst other (inr e) = subst (λ (k : ℕ). Holds setup blank k other) (sym (e.0 ∙ made.count)) (subst (Holds setup blank n) e.1 (is, has, keeps))
 
 -- an inlet that was made, whatever its values are
 pub new_inlet : (setup : Setup) (inst : ℕ) (inlet : Inlet) (ports : List Port) → ports ≡ ports_of setup inst → inlet.of ≡ places_of ports
@@ -212,4 +185,10 @@ new_inlet setup inst inlet ports are of inputs symbols fresh =
           ∙ ap length (map_at (fresh_block frames) ports i port [] (ap (λ all. slice_get all i) are ∙ at))
           ∙ length-replicate (if port.input && is_sound port.kind then frames else 0) silent
           ∙ ap (λ (b : Bool). if b then frames else 0) e;
+      rooms = ap (λ (it : Given). map (λ (forge : Forged). forge.room) it.events) fresh
+          ∙ map_map ports ∙ ap (map input_room) are;
     }
+  where
+    map_map : (all : List Port) → map (λ (forge : Forged). forge.room) (map fresh_forge all) ≡ map input_room all
+    map_map [] = refl
+    map_map (port ∷ all) = ap (λ (rooms : List ℕ). input_room port ∷ rooms) (map_map all)

@@ -91,7 +91,7 @@ abbrev pub CableHeard : ℕ → Outlets → List Sample → Option Source → Ty
 CableHeard frames outlets part None = IsSilent part
 CableHeard frames outlets part (Some source) = IsHeard frames outlets source × (heard outlets source ≡ part)
 
-show_led : {setup : Setup} {board : Board} {inst : ℕ} {outlet : Outlet} (delayed : Bool) → ShowsInstance setup board inst outlet
+pub show_led : {setup : Setup} {board : Board} {inst : ℕ} {outlet : Outlet} (delayed : Bool) → ShowsInstance setup board inst outlet
     → Show setup.session.block (ports_of setup inst) (led_from delayed board inst) (if delayed then outlet.before else outlet.now)
 show_led false shown = shown.now
 show_led true shown = shown.before
@@ -138,7 +138,7 @@ output_heard setup board outlets kind cable output i sounding ready shows inside
         (unwrap_or (led_from cable.delayed board cable.source) []) shown.fit (quiet_silent setup.session.block output.kind)
 
 -- the output that a cable leads from is a port of its instance, which is there
-output_there : (setup : Setup) (outlets : Outlets) (board : Board) (cable : CableLine) (output : Port) → IsReady setup → ShowsOutputs setup board outlets
+pub output_there : (setup : Setup) (outlets : Outlets) (board : Board) (cable : CableLine) (output : Port) → IsReady setup → ShowsOutputs setup board outlets
     → port_at setup.decls cable.source cable.output ≡ Some output
     → (i : ℕ) × (cable.source < length outlets.each.items) × (slice_get (ports_of setup cable.source) i ≡ Some output)
 output_there setup outlets board cable output ready shows is =
@@ -230,7 +230,7 @@ sound_heard setup board outlets inst port sounding ready shows =
 
 -- ---- each source is there
 
-all_kept : {X Y : Type 0} → (P : Y → Type 0) (f : X → Option Y) → ((x : X) (y : Y) → f x ≡ Some y → P y) → (xs : List X) → All P (filter_map f xs)
+pub all_kept : {X Y : Type 0} → (P : Y → Type 0) (f : X → Option Y) → ((x : X) (y : Y) → f x ≡ Some y → P y) → (xs : List X) → All P (filter_map f xs)
 all_kept P f each [] = All-nil P
 all_kept P f each (x ∷ xs) = by (f x) refl (all_kept P f each xs)
   where

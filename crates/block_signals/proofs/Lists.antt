@@ -1,6 +1,6 @@
 -- Lists that a loop makes or changes, item by item.
-use Rattle.std.proofs.Common.{◌≡◌, ℕ, zero, suc, ◌+◌, ◌<◌, List, [], ◌∷◌, ◌++◌, length, get_or, set, map, take, drop, slice_get, option_map, Some, refl, sym, ap, ◌∙◌, ◌⊎◌, inl, inr, append_assoc, arith}
-use Rattle.std.proofs.lemmas.List.{length-map, length-take-le, drop_more, set_at, map_more}
+use Rattle.std.proofs.Common.{◌≡◌, ℕ, zero, suc, ◌+◌, ◌-◌, ◌<◌, List, [], ◌∷◌, ◌++◌, length, get_or, set, map, take, drop, slice_get, option_map, Some, refl, sym, ap, ◌∙◌, ◌⊎◌, inl, inr, append_assoc, arith}
+use Rattle.std.proofs.lemmas.List.{length-map, length-take-le, drop_more, set_at, map_more, get_or-append_right, get_or-drop}
 use Rattle.std.proofs.lemmas.Option.{none-some, same_Some, slice_get-map, get_or_from_slice_get}
 
 -- an item that is found in a list with one more is that one, or was there
@@ -13,18 +13,6 @@ pushed_get (z ∷ xs) y (suc i) x e = by (pushed_get xs y i x e)
     by : (slice_get xs i ≡ Some x) ⊎ ((i ≡ length xs) × (y ≡ x)) → (slice_get (z ∷ xs) (suc i) ≡ Some x) ⊎ ((suc i ≡ length (z ∷ xs)) × (y ≡ x))
     by (inl h) = inl h
     by (inr h) = inr (ap suc h.0, h.1)
-
--- an item that is found in a list after one was set is that one, or was there
-pub set_get : {X : Type 0} → (xs : List X) (at : ℕ) (y : X) (i : ℕ) (x : X) → slice_get (set xs at y) i ≡ Some x → ((i ≡ at) × (y ≡ x)) ⊎ (slice_get xs i ≡ Some x)
-set_get [] at y i x e = inr e
-set_get (z ∷ xs) zero y zero x e = inl (refl, same_Some y x e)
-set_get (z ∷ xs) zero y (suc i) x e = inr e
-set_get (z ∷ xs) (suc at) y zero x e = inr e
-set_get (z ∷ xs) (suc at) y (suc i) x e = by (set_get xs at y i x e)
-  where
-    by : ((i ≡ at) × (y ≡ x)) ⊎ (slice_get xs i ≡ Some x) → ((suc i ≡ suc at) × (y ≡ x)) ⊎ (slice_get (z ∷ xs) (suc i) ≡ Some x)
-    by (inl h) = inl (ap suc h.0, h.1)
-    by (inr h) = inr h
 
 -- one more item of a list is put over another list
 pub put_next : {X Y : Type 0} → (f : X → Y) (xs : List X) (ys : List Y) (i : ℕ) (x : X) → i < length xs → length ys ≡ length xs → x ≡ get_or xs i x
@@ -57,3 +45,10 @@ set_apart (y ∷ xs) zero x zero ne = absurd (ne refl)
 set_apart (y ∷ xs) zero x (suc k) ne = refl
 set_apart (y ∷ xs) (suc i) x zero ne = refl
 set_apart (y ∷ xs) (suc i) x (suc k) ne = set_apart xs i x k (λ same. ne (ap suc same))
+
+-- an item that a loop over a list has not come to yet is still the list's
+pub over_next : {X : Type 0} → (f : X → X) (xs items : List X) (i : ℕ) (d : X) → items ≡ map f (take i xs) ++ drop i xs → i < length xs → get_or items i d ≡ get_or xs i d
+over_next f xs items i d is h =
+    let long : length (map f (take i xs)) ≡ i = length-map (take i xs) f ∙ length-take-le i xs (omega arith) in
+    ap (λ (l : List _). get_or l i d) is ∙ get_or-append_right (map f (take i xs)) (drop i xs) i i d long (omega arith)
+    ∙ get_or-drop i xs (i - i) d ∙ ap (λ (n : ℕ). get_or xs n d) (omega arith)

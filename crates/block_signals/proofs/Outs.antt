@@ -27,7 +27,7 @@ begun_outlet outlet = record { now = silenced outlet.before; before = outlet.now
 -- ---- whatever is written, its form stays
 
 -- an item replaced by one that is seen alike
-map_set_same : {X Y : Type 0} → (f : X → Y) (xs : List X) (i : ℕ) (x d : X) → (i < length xs → f x ≡ f (get_or xs i d)) → map f (set xs i x) ≡ map f xs
+pub map_set_same : {X Y : Type 0} → (f : X → Y) (xs : List X) (i : ℕ) (x d : X) → (i < length xs → f x ≡ f (get_or xs i d)) → map f (set xs i x) ≡ map f xs
 map_set_same f xs i x d same = by (cases_lt i (length xs))
   where
     by : (i < length xs) ⊎ (length xs ≤ i) → map f (set xs i x) ≡ map f xs

@@ -1,10 +1,10 @@
 -- What is known after an action set a value.
-use Rattle.std.proofs.Common.{◌≡◌, ◌≢◌, ℕ, ℤ, Vec, ◌⊎◌, inl, inr, ◌<◌, Bool, true, false, eqb, if◌then◌else◌, List, [], length, get_or, set, map, Some, None, slice_get, unwrap_or, refl, sym, ap, subst, ◌∙◌, arith, eq-eqb}
+use Rattle.std.proofs.Common.{◌≡◌, ℕ, ℤ, Vec, ◌<◌, Bool, true, false, eqb, if◌then◌else◌, List, [], length, get_or, map, Option, Some, None, slice_get, unwrap_or, refl, sym, ap, subst, ◌∙◌, arith, eq-eqb}
 use Rattle.std.specs.Prelude.{slice_set}
 use Rattle.std.specs.Str.{bytes_eq}
-use Rattle.std.proofs.lemmas.Bool.{ne_eqb, cases_eq}
-use Rattle.std.proofs.lemmas.List.{length-map, length-set, get_or_default, same_lists}
-use Rattle.std.proofs.lemmas.Option.{same_Some, option_and_then_some}
+use Rattle.std.proofs.lemmas.Bool.{ne_eqb}
+use Rattle.std.proofs.lemmas.List.{length-map, get_or_default, same_lists}
+use Rattle.std.proofs.lemmas.Option.{option_and_then_some}
 use Rattle.std.proofs.lemmas.Slice.Eq.{bytes_eq-Decides}
 use Rattle.lv_base.specs.declared.number.Fixed.{Fixed}
 use Rattle.plugin_decl.specs.declared.declaration.Port.{Port}
@@ -12,19 +12,24 @@ use Rattle.session_script.specs.declared.session.Action.{Action}
 use Rattle.graph_order.specs.declared.setup.Setup.{Setup}
 use Rattle.graph_order.specs.Setup.{IsReady}
 use Rattle.graph_order.specs.Ports.{port_in}
+use Rattle.atom_core.specs.Value.{Value}
+use Rattle.atom_forge.specs.Forged.{Forged}
 use Rattle.plug_api.specs.Buffers.{Given, block_at, fixed_at}
 use Rattle.plug_api.specs.Signal.{nought}
 use Rattle.session_play.specs.Looking.{newer}
+use Rattle.session_play.specs.Patch.{message_of}
 use Rattle.session_play.specs.Setup.{ports_of}
-use Rattle.session_play.specs.Signals.{set_by, set_at, value_before}
+use Rattle.session_play.specs.Signals.{set_by, set_at, value_before, message_to, put_event}
 use Rattle.block_signals.specs.declared.inlet.Inlet.{Inlet}
 use Rattle.block_signals.specs.declared.inlets.Inlets.{Inlets}
 use Rattle.block_signals.specs.Board.{Board, with_action}
 use Rattle.block_signals.specs.Given.{value_given}
-use Rattle.block_signals.specs.Inlets.{IsInlet, HasValues, HoldsInputs}
+use Rattle.block_signals.specs.Inlets.{IsInlet, HasValues, HasMessages, HoldsInputs}
+use Rattle.block_signals.specs.Messages.{KeepsFor}
 use Rattle.block_signals.specs.Setting.{SetsAt}
 use Rattle.block_signals.proofs.Given.{ports_are}
-use Rattle.block_signals.proofs.Lists.{item_there, map_at, set_here, set_apart}
+use Rattle.block_signals.proofs.Holding.{replaced}
+use Rattle.block_signals.proofs.Lists.{item_there, map_at}
 use Rattle.block_signals.proofs.Shown.{decl_valid}
 use Rattle.block_signals.proofs.Sources.{found_there, found_passes, index_of}
 
@@ -92,11 +97,27 @@ values_after urids setup board inst port value action ins new symbols ready sets
     ∙ sym (value_after urids setup board inst port value action sets one.0)
     ∙ sym (map_at (value_given setup (with_action urids board action) inst) (ports_of setup inst) k one.0 d one.1))
 
+-- ---- messages
+
+-- an action that sets a value sends no message
+no_message : (urids : List (List ℕ)) (setup : Setup) (inst port : ℕ) (value : Fixed) (action : Action) → SetsAt setup inst port value action → (k : ℕ)
+    → message_to urids k action ≡ None
+no_message urids setup inst port value action sets k = by (eqb action.inst k)
+  where
+    by : (b : Bool) → (if b then message_of urids action.deed else None) ≡ None
+    by true = ap (message_of urids) sets.deed
+    by false = refl
+
+pub messages_stay : (urids : List (List ℕ)) (setup : Setup) (board : Board) (action : Action) (k : ℕ) (inlet : Inlet) → message_to urids k action ≡ None
+    → HasMessages setup board k inlet → HasMessages setup (with_action urids board action) k inlet
+messages_stay urids setup board action k inlet none has =
+    subst (λ (found : Option Value). KeepsFor (ports_of setup k) (put_event found (board.messages k)) inlet.messages) (sym none) has
+
 -- ---- those of all instances
 
-set_apart_inlet : (urids : List (List ℕ)) (setup : Setup) (board : Board) (inst k : ℕ) (action : Action) (inlet : Inlet) → action.inst ≡ inst → (inst ≡ k → ⊥)
-    → HasValues setup board k inlet.ins → HasValues setup (with_action urids board action) k inlet.ins
-set_apart_inlet urids setup board inst k action inlet of ne has =
+pub values_apart : (urids : List (List ℕ)) (setup : Setup) (board : Board) (inst k : ℕ) (action : Action) (ins : Given) → action.inst ≡ inst → (inst ≡ k → ⊥)
+    → HasValues setup board k ins → HasValues setup (with_action urids board action) k ins
+values_apart urids setup board inst k action ins of ne has =
     let other : eqb action.inst k ≡ false = ne_eqb action.inst k (λ same. ne (sym of ∙ same)) in
     has ∙ (λ t. map (λ port. sym (value_elsewhere urids setup board inst k action port other) t) (ports_of setup k))
 
@@ -104,11 +125,15 @@ pub set_all : (urids : List (List ℕ)) (setup : Setup) (board : Board) (old new
     → HoldsInputs setup board old → SetsAt setup inst port value action → inst < length old.each.items → slice_get old.each.items inst ≡ Some inlet
     → ins ≡ record inlet.ins { values = ins.values } → HasValues setup (with_action urids board action) inst ins
     → new.each.items ≡ slice_set old.each.items inst (record inlet { ins = ins }) → new.sums ≡ old.sums → HoldsInputs setup (with_action urids board action) new
-set_all urids setup board old new inst port value action inlet ins holds sets inside here others has is sums = record {
-  all = ap length is ∙ length-set old.each.items inst later ∙ holds.all;
-  sums = ap (λ (it : Vec ℤ _). length it.items) sums ∙ holds.sums;
-  kept = λ k other at. by k other (ap (λ items. slice_get items k) (sym is) ∙ at) (cases_eq inst k);
-}
+set_all urids setup board old new inst port value action inlet ins holds sets inside here others has is sums =
+    replaced setup board (with_action urids board action) old new inst later holds inside
+    (wired, has, messages_stay urids setup board action inst later (no_message urids setup inst port value action sets inst) (holds.kept inst inlet here).2)
+    (λ k other ne was. (
+      was.0,
+      values_apart urids setup board inst k action other.ins sets.of ne was.1,
+      messages_stay urids setup board action k other (no_message urids setup inst port value action sets k) was.2,
+    ))
+    is (ap (λ (it : Vec ℤ _). length it.items) sums)
   where
     later : Inlet
     later = record inlet { ins = ins }
@@ -123,14 +148,5 @@ set_all urids setup board old new inst port value action inlet ins holds sets in
           frames = ap (λ (it : Given). it.frames) others ∙ was.frames;
           blocks = ap (λ (it : Given). length it.blocks) others ∙ was.blocks;
           whole = λ i one at e. ap (λ (it : Given). length (block_at it.blocks i)) others ∙ was.whole i one at e;
+          rooms = ap (λ (it : Given). map (λ (forge : Forged). forge.room) it.events) others ∙ was.rooms;
         }
-
-    by : (k : ℕ) (other : Inlet) → slice_get (set old.each.items inst later) k ≡ Some other → (inst ≡ k) ⊎ (inst ≢ k)
-        → IsInlet setup k other × HasValues setup (with_action urids board action) k other.ins
-    by k other at (inl same) =
-        let it : later ≡ other = same_Some later other (sym (set_here old.each.items inst later inside) ∙ ap (slice_get (set old.each.items inst later)) same ∙ at) in
-        let P : ℕ → Inlet → Type 0 = λ n one. IsInlet setup n one × HasValues setup (with_action urids board action) n one.ins in
-        subst (λ (n : ℕ). P n other) same (subst (P inst) it (wired, has))
-    by k other at (inr ne) =
-        let was = holds.kept k other (sym (set_apart old.each.items inst later k ne) ∙ at) in
-        (was.0, set_apart_inlet urids setup board inst k action other sets.of ne was.1)

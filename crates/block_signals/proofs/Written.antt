@@ -26,7 +26,7 @@ sound_or_control Control h k u = false≢true h
 sound_or_control Atom h k u = false≢true h
 sound_or_control Unsupported h k u = false≢true h
 
-sound_or_atom : (kind : PortKind) → is_sound kind ≡ true → is_atom kind ≡ true → Unit {0} → ⊥
+pub sound_or_atom : (kind : PortKind) → is_sound kind ≡ true → is_atom kind ≡ true → Unit {0} → ⊥
 sound_or_atom Audio h k u = false≢true k
 sound_or_atom Cv h k u = false≢true k
 sound_or_atom Control h k u = false≢true h
@@ -34,7 +34,7 @@ sound_or_atom Atom h k u = false≢true h
 sound_or_atom Unsupported h k u = false≢true h
 
 -- so two ports of two lists are two
-two_ports : (one other : PortKind → Bool) → ((kind : PortKind) → one kind ≡ true → other kind ≡ true → Unit {0} → ⊥) → (ports : List Port) (i j : ℕ)
+pub two_ports : (one other : PortKind → Bool) → ((kind : PortKind) → one kind ≡ true → other kind ≡ true → Unit {0} → ⊥) → (ports : List Port) (i j : ℕ)
     → has one false ports i ≡ true → has other false ports j ≡ true → eqb j i ≡ false
 two_ports one other apart ports i j here there = by (eqb j i) refl
   where

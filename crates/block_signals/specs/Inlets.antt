@@ -5,7 +5,9 @@ use Rattle.lv_base.specs.declared.number.Fixed.{Fixed}
 use Rattle.session_script.specs.declared.session.SetLine.{SetLine}
 use Rattle.plugin_decl.specs.declared.declaration.Port.{Port}
 use Rattle.graph_order.specs.declared.setup.Setup.{Setup}
+use Rattle.atom_forge.specs.Forged.{Forged}
 use Rattle.plug_api.specs.Buffers.{Given, block_at, given_block}
+use Rattle.plug_api.specs.Fresh.{input_room}
 use Rattle.plug_api.specs.Ports.{HoldsBlock}
 use Rattle.plug_api.specs.Roles.{is_sound}
 use Rattle.session_play.specs.Setup.{ports_of}
@@ -17,6 +19,7 @@ use Rattle.block_signals.specs.declared.source.Input.{Input}
 use Rattle.block_signals.specs.declared.source.Input.TheVariants.{Sound, Events, Still}
 use Rattle.block_signals.specs.Board.{Board}
 use Rattle.block_signals.specs.Given.{sound_given, value_given}
+use Rattle.block_signals.specs.Messages.{KeepsFor}
 use Rattle.block_signals.specs.Mixing.{heard, IsHeard}
 use Rattle.block_signals.specs.Places.{places_of}
 use Rattle.block_signals.specs.Sources.{input_of}
@@ -57,16 +60,25 @@ pub record IsInlet (setup : Setup) (inst : ℕ) (inlet : Inlet) : Type 0 where
   pub blocks : length inlet.ins.blocks ≡ length (ports_of setup inst)
   pub whole : (i : ℕ) (port : Port) → slice_get (ports_of setup inst) i ≡ Some port → (port.input && is_sound port.kind) ≡ true
       → length (block_at inlet.ins.blocks i) ≡ setup.session.block
+  pub rooms : map (λ (forge : Forged). forge.room) inlet.ins.events ≡ map input_room (ports_of setup inst)
 
 -- its control inputs have the values that are known
 abbrev pub HasValues : Setup → Board → ℕ → Given → Type 0
 HasValues setup board inst ins = ins.values ≡ map (value_given setup board inst) (ports_of setup inst)
 
--- those of all instances, with room for sums, have their values
+-- the messages that were taken for it in the block at hand are kept
+abbrev pub HasMessages : Setup → Board → ℕ → Inlet → Type 0
+HasMessages setup board inst inlet = KeepsFor (ports_of setup inst) (board.messages inst) inlet.messages
+
+-- all that is kept for it
+abbrev pub Holds : Setup → Board → ℕ → Inlet → Type 0
+Holds setup board inst inlet = IsInlet setup inst inlet × HasValues setup board inst inlet.ins × HasMessages setup board inst inlet
+
+-- and for all instances, with room for sums
 pub record HoldsInputs (setup : Setup) (board : Board) (inlets : Inlets) : Type 0 where
   pub all : length inlets.each.items ≡ length setup.decls
   pub sums : length inlets.sums.items ≡ setup.session.block
-  pub kept : (inst : ℕ) (inlet : Inlet) → slice_get inlets.each.items inst ≡ Some inlet → IsInlet setup inst inlet × HasValues setup board inst inlet.ins
+  pub kept : (inst : ℕ) (inlet : Inlet) → slice_get inlets.each.items inst ≡ Some inlet → Holds setup board inst inlet
 
 -- its inputs of sound have what comes to them
 abbrev pub HasSounds : Setup → Board → ℕ → Given → Type 0

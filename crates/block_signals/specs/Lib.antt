@@ -5,6 +5,8 @@ pub mod Inlets
 pub mod Laws
 pub mod Lent
 pub mod Lending
+pub mod Merging
+pub mod Messages
 pub mod Mixing
 pub mod Outlets
 pub mod Parts

@@ -1,4 +1,4 @@
--- What outputs show hangs on what runs gave alone, and what inputs hold on the values alone.
+-- What outputs show hangs on what runs gave alone, and what inputs hold on the values and the messages alone.
 use Rattle.std.specs.Prelude.{◌≡◌}
 use Rattle.graph_order.specs.declared.setup.Setup.{Setup}
 use Rattle.block_signals.specs.declared.inlets.Inlets.{Inlets}
@@ -12,4 +12,5 @@ OutputsStay = (setup : Setup) (board other : Board) (outlets : Outlets) → othe
     → ShowsOutputs setup board outlets → ShowsOutputs setup other outlets
 
 abbrev pub ValuesStay : Type 0
-ValuesStay = (setup : Setup) (board other : Board) (inlets : Inlets) → other.values ≡ board.values → HoldsInputs setup board inlets → HoldsInputs setup other inlets
+ValuesStay = (setup : Setup) (board other : Board) (inlets : Inlets) → other.values ≡ board.values → other.messages ≡ board.messages
+    → HoldsInputs setup board inlets → HoldsInputs setup other inlets

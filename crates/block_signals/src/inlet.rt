@@ -1,16 +1,27 @@
-ghost use Rattle.std.specs.Prelude.{◌≡◌, ℕ, ◌≤◌, ◌<◌, true, [], if◌then◌else◌, List, length, map, slice_get, slice_index_or, Some, IfOk};
+ghost use Rattle.std.specs.Prelude.{◌≡◌, ℕ, ◌≤◌, ◌<◌, ◌++◌, ◌∷◌, true, [], if◌then◌else◌, List, length, map, slice_get, slice_index_or, Some, IfOk};
 ghost use Rattle.std.specs.Str.{bytes_eq};
 ghost use Rattle.graph_order.specs.Setup.{IsReady};
 ghost use Rattle.plug_api.specs.Buffers.{Given, block_at, fixed_at};
+ghost use Rattle.plug_api.specs.Fresh.{fresh_inputs};
 ghost use Rattle.session_play.specs.Signals.{mixed};
 ghost use Rattle.block_signals.specs.declared.source.Input.{Input as Kept};
-ghost use Rattle.block_signals.specs.Board.{blank};
-ghost use Rattle.block_signals.specs.Inlets.{CanPut, with_input, IsPut, IsInlet, HasValues, value_set};
+ghost use Rattle.block_signals.specs.Board.{Board, blank};
+ghost use Rattle.block_signals.specs.Inlets.{CanPut, with_input, IsPut, IsInlet, HasValues, HasMessages, Holds, value_set};
+ghost use Rattle.block_signals.specs.Lent.{IsFilled};
+ghost use Rattle.block_signals.specs.Outlets.{ShowsOutputs};
+ghost use Rattle.graph_order.specs.declared.setup.Setup.{Setup};
+ghost use Rattle.block_signals.specs.Messages.{AreBytesOf, KeepsFor, AreRoomy, begun_messages};
+ghost use Rattle.atom_core.specs.Value.{Value};
+ghost use Rattle.atom_sequence.specs.Event.{Event};
+ghost use Rattle.session_play.specs.Signals.{at_start};
+ghost use Rattle.plugin_decl.specs.Valid.{IsValid};
 ghost use Rattle.plugin_decl.specs.declared.declaration.Port.{Port};
 ghost use Rattle.session_play.specs.Setup.{ports_of};
 ghost use Rattle.block_signals.specs.Mixing.{heard, IsHeard};
 ghost use Rattle.std.specs.Prelude.{All};
 
+use crate::events::merge_all;
+use crate::messages::Messages;
 use crate::mixing::mix;
 use crate::outlet::places_of;
 use crate::outlets::Outlets;
@@ -18,52 +29,108 @@ use crate::source::{Input, Source, inputs_of};
 use graph_order::Setup;
 use lv_base::{Fixed, Items, NoMemory, Text};
 use plug_api::{Block, Ins};
-use plugin_decl::Port;
+use plugin_decl::{Decl, Port};
 use session_script::SetLine;
 use std::alloc::Global;
 
-/// What stands ready for the runs of an instance: what its inputs are given, and the places of its outputs.
+/// What stands ready for the runs of an instance: what its inputs are given, the places of its outputs, and the messages to it.
 #[derive(Drop)]
 pub struct Inlet {
     pub(crate) ins: Ins,
     pub(crate) of: Items<u32>,
     pub(crate) inputs: Items<Input>,
     pub(crate) symbols: Items<Text>,
+    pub(crate) messages: Option<Messages>,
 }
 
 impl Inlet {
-    /// The inlet of an instance, with its values before the run.
+    /// The inlet of an instance, with its values before the run, and without messages.
     pub(crate) fn new(
         alloc: Global,
         setup: &Setup,
         inst: u32,
-        ports: &[Port],
+        decl: &Decl,
     ) -> Result<Inlet, NoMemory>
         requires ready { IsReady setup.now }
-        requires ports { ports.now ≡ ports_of setup.now inst }
-        requires few { length ports.now ≤ 256 }
-        requires within { All (λ (port : Port). port.index ≤ length ports.now) ports.now }
+        requires valid { IsValid decl.now }
+        requires ports { decl.now.ports ≡ ports_of setup.now inst }
         ensures inlet { IfOk result (IsInlet setup.now inst) }
         ensures values { IfOk result (λ inlet. HasValues setup.now blank inst inlet.ins) }
+        ensures messages { IfOk result (HasMessages setup.now blank inst) }
     {
+        let ports = decl.ports.as_slice();
         let inputs = inputs_of(alloc, setup, inst, ports)?;
         let of = Items::from_vec(places_of(alloc, ports)?);
         let symbols = symbols_of(alloc, ports)?;
-        let mut ins = Ins::with_ports(alloc, ports, setup.session.block)?;
-        begin_values(&mut ins, ports);
-        set_lines(
-            &mut ins,
-            symbols.as_slice(),
-            setup.session.sets.as_slice(),
-            inst,
-        );
+        let messages = Messages::of(alloc, decl)?;
+        let ins = first_ins(alloc, setup, inst, ports, symbols.as_slice())?;
         Ok(Inlet {
             ins,
             of,
             inputs,
             symbols,
+            messages,
         })
     }
+
+    /// Forgets the messages, since a block begins.
+    pub(crate) fn begin_block(&mut self)
+        requires { AreRoomy self.old.messages }
+        ensures { self.new ≡ record self.old { messages = begun_messages self.old.messages } }
+    {
+        if let Some(messages) = &mut self.messages {
+            messages.begin_block();
+        }
+    }
+
+    /// Takes a message, if the instance has a port for messages.
+    pub(crate) fn take(&mut self, atom: &[u8])
+        requires known { (ports : List Port) × (messages : List Event) × KeepsFor ports messages self.old.messages }
+        requires atom { (value : Value) × AreBytesOf atom.now value }
+        ensures others { self.new ≡ record self.old { messages = self.new.messages } }
+        ensures kept { (ports : List Port) (messages : List Event) (value : Value) → KeepsFor ports messages self.old.messages → AreBytesOf atom.now value
+            → KeepsFor ports (messages ++ at_start value ∷ []) self.new.messages }
+    {
+        if let Some(messages) = &mut self.messages {
+            messages.take(atom);
+        }
+    }
+
+    /// Puts what comes to the inputs before a run.
+    pub(crate) fn fill(&mut self, sums: &mut [i64], outlets: &Outlets)
+        requires room { length sums.old ≡ self.old.ins.frames }
+        requires known { (setup : Setup) × (board : Board) × (inst : ℕ) × IsReady setup × ShowsOutputs setup board outlets.now × Holds setup board inst self.old }
+        ensures filled { (setup : Setup) (board : Board) (inst : ℕ) → IsReady setup → ShowsOutputs setup board outlets.now → Holds setup board inst self.old
+            → IsFilled setup board inst self.new }
+        ensures messages { self.new.messages ≡ self.old.messages }
+    {
+        fill(&mut self.ins, self.inputs.as_slice(), sums, outlets);
+        merge_all(
+            &mut self.ins,
+            self.inputs.as_slice(),
+            &self.messages,
+            outlets,
+        );
+    }
+}
+
+/// What is given before the run: the first value of each port, or what the lines of the session set.
+fn first_ins(
+    alloc: Global,
+    setup: &Setup,
+    inst: u32,
+    ports: &[Port],
+    symbols: &[Text],
+) -> Result<Ins, NoMemory>
+    requires few { length ports.now ≤ 256 }
+    requires named { symbols.now ≡ map (λ (port : Port). port.symbol) ports.now }
+    ensures others { IfOk result (λ ins. ins ≡ record (fresh_inputs ports.now setup.now.session.block) { values = ins.values }) }
+    ensures values { ports.now ≡ ports_of setup.now inst → IfOk result (HasValues setup.now blank inst) }
+{
+    let mut ins = Ins::with_ports(alloc, ports, setup.session.block)?;
+    begin_values(&mut ins, ports);
+    set_lines(&mut ins, symbols, setup.session.sets.as_slice(), inst);
+    Ok(ins)
 }
 
 fn symbols_of(alloc: Global, ports: &[Port]) -> Result<Items<Text>, NoMemory>

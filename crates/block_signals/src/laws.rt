@@ -3,6 +3,7 @@ ghost use Rattle.block_signals.specs.Channels.{BoardGivesBlock};
 ghost use Rattle.block_signals.specs.Parts.{OutputsStay, ValuesStay};
 ghost use Rattle.block_signals.specs.Lent.{FilledIsReady};
 ghost use Rattle.block_signals.specs.Running.{NotRunIsQuiet, RunIsShown};
+ghost use Rattle.block_signals.specs.Setting.{NothingIsChanged};
 
 /// What is known at a moment says what each run is given.
 pub fn board_gives_inputs<F, B>()
@@ -50,7 +51,12 @@ pub fn board_gives_block<F, B>()
     ensures { BoardGivesBlock F B }
 {}
 
-/// Where what runs gave stays, outputs show it still, and so it is with the values of inputs.
+/// An action that sets no value, and sends no message that its instance has a port for, changes nothing that is held.
+pub fn nothing_is_changed()
+    ensures { NothingIsChanged }
+{}
+
+/// Where what runs gave stays, outputs show it still, and so it is with the values of inputs and the messages.
 pub fn parts_stay()
     ensures outputs { OutputsStay }
     ensures values { ValuesStay }

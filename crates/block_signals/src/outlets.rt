@@ -5,8 +5,10 @@ ghost use Rattle.graph_order.specs.declared.setup.Setup.{Setup};
 ghost use Rattle.block_signals.specs.Board.{Board, blank, block_begun};
 ghost use Rattle.block_signals.specs.Outlets.{ShowsOutputs};
 ghost use Rattle.block_signals.specs.Lending.{LendsNow, now_at};
+ghost use Rattle.block_signals.specs.Merging.{GivesEvents, events_heard};
 ghost use Rattle.block_signals.specs.Mixing.{outs_at, heard};
 
+use crate::messages::event_bytes;
 use crate::outlet::Outlet;
 use crate::source::Source;
 use graph_order::Setup;
@@ -60,6 +62,14 @@ impl Outlets {
         ensures { result.now ≡ heard self.now source }
     {
         self.outs_at(source).block(source.place)
+    }
+
+    /// The events of a source, as their bytes.
+    pub(crate) fn events(&self, source: Source) -> &[u8]
+        requires { GivesEvents self.now source }
+        ensures { result.now ≡ events_heard self.now source }
+    {
+        event_bytes(self.outs_at(source).forge(source.place))
     }
 
     /// The outputs that a source is among.

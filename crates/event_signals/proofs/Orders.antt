@@ -37,7 +37,7 @@ each_append : (P : Event → Type 0) (a b : List Event) → Each P a → Each P 
 each_append P [] b h k = k
 each_append P (e ∷ a) b h k = (h.0, each_append P a b h.1 k)
 
-each_joined : (P : Event → Type 0) (all : List (List Event)) → EachList P all → Each P (joined all)
+pub each_joined : (P : Event → Type 0) (all : List (List Event)) → EachList P all → Each P (joined all)
 each_joined P [] h = tt
 each_joined P (events ∷ all) h = each_append P events (joined all) h.0 (each_joined P all h.1)
 
@@ -49,7 +49,7 @@ each_put P e (f ∷ events) p h = by (int_le e.time f.time) (each_put P e events
     by true rest = (p, h)
     by false rest = (h.0, rest)
 
-each_order : (P : Event → Type 0) (events : List Event) → Each P events → Each P (in_order events)
+pub each_order : (P : Event → Type 0) (events : List Event) → Each P events → Each P (in_order events)
 each_order P [] h = tt
 each_order P (e ∷ events) h = each_put P e (in_order events) h.0 (each_order P events h.1)
 
@@ -130,7 +130,7 @@ falls_of from frames (e ∷ events) h =
 later : (a b : ℤ) (events : List Event) → a ≤ℤ b → From b events → From a events
 later a b events le h = λ k d lt. let more = h k d lt in omega (arith, ints, more, le)
 
-each_of : (frames : ℕ) (from : ℤ) (events : List Event) → pos 0 ≤ℤ from → PartsFit 16 Sequence (as_parts events) → AreInOrder from frames (as_parts events)
+pub each_of : (frames : ℕ) (from : ℤ) (events : List Event) → pos 0 ≤ℤ from → PartsFit 16 Sequence (as_parts events) → AreInOrder from frames (as_parts events)
     → Each (InBlock frames) events
 each_of frames from [] low fits h = tt
 each_of frames from (e ∷ events) low fits h =

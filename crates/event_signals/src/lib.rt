@@ -3,4 +3,4 @@
 
 mod merging;
 
-pub use merging::put_merged;
+pub use merging::{begin_sequence, put_merged};

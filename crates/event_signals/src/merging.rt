@@ -16,13 +16,13 @@ pub fn put_merged(into: &mut Forge, lists: &[&[u8]])
     ensures events { into.new ≡ sequence_of into.old.room (merged (into.old.room - 16) (map events_of lists.now)) }
     ensures sequence { (frames : ℕ) → AreTimed frames lists.now → into.old.room < 2 ^ 32 → IsSequence frames into.new }
 {
-    begin(into);
+    begin_sequence(into);
     merge_lists(into, lists);
     into.pop();
 }
 
 /// Empties a forge, and opens a sequence in it.
-fn begin(into: &mut Forge)
+pub fn begin_sequence(into: &mut Forge)
     requires { 16 ≤ into.old.room }
     ensures { into.new ≡ begun_forge into.old.room }
 {

@@ -1,15 +1,19 @@
 -- A message alone in a forge: it is short, so it has room, and a parcel has room for it.
-use Rattle.std.proofs.Common.{◌≡◌, ℕ, zero, suc, ◌+◌, ◌≤◌, ◌<◌, Bool, true, false, ◌||◌, not, cond, if◌then◌else◌, List, [], ◌∷◌, length, Option, Some, None, IfSome, IfNone, Result, Ok, Err, refl, sym, ap, ◌∙◌, subst, arith}
+use Rattle.std.proofs.Common.{◌≡◌, ℕ, zero, suc, ◌+◌, ◌^◌, ◌≤◌, ◌<◌, FitsSigned, Bool, true, false, ◌||◌, not, cond, if◌then◌else◌, List, [], ◌∷◌, length, Option, Some, None, IfSome, IfNone, Result, Ok, Err, refl, sym, ap, ◌∙◌, subst, arith}
 use Rattle.std.specs.List.{position_or_len, list_any}
-use Rattle.std.specs.Option.{unwrap_or, option_map, option_map_or}
+use Rattle.std.specs.Option.{unwrap_or, option_map_or}
+use Rattle.std.specs.Int.{w32, w64}
 use Rattle.std.specs.Str.{bytes_eq}
 use Rattle.atom_core.specs.Value.{urid, object, keyed, Value, plain, holding, none, part}
-use Rattle.atom_core.specs.Spelling.{u32, i32, i64, atom_of}
+use Rattle.atom_core.specs.Spelling.{u32, i32, i64, framed, body_of, atom_of}
+use Rattle.atom_core.specs.Form.{form_of}
+use Rattle.atom_core.specs.Fits.{Fits}
 use Rattle.atom_forge.specs.Forged.{Forged, PutsAtom}
 use Rattle.atom_forge.specs.declared.room.NoRoom.{NoRoom}
 use Rattle.patch_control.specs.declared.value.Value.{Value as Number}
 use Rattle.patch_control.specs.declared.value.Value.TheVariants.{Int, Fixed}
-use Rattle.patch_control.specs.Written.{get_object, set_object}
+use Rattle.atom_forge.proofs.Pieces.{framed-length}
+use Rattle.patch_control.specs.Written.{get_object, set_object, value_of}
 use Rattle.session_play.specs.Patch.{get_type, property_key, get_message}
 use Rattle.urid_map.specs.Numbers.{holds, number_of}
 
@@ -77,3 +81,40 @@ asked_is urids (Some uri) = asks (number_of urids uri) (position_or_len (bytes_e
   where
     asks : (n place : ℕ) → n ≡ suc place → get_object n ≡ holding (object 0 get_type) (part (keyed property_key 0) (plain (urid n)) none)
     asks n place e = ap get_object e ∙ ap (λ k. holding (object 0 get_type) (part (keyed property_key 0) (plain (urid k)) none)) (sym e)
+
+-- ---- a message may stand in a sequence
+
+-- the numbers of properties are those of the format
+abbrev pub NumberFits : Number → Type 0
+NumberFits (Int z) = FitsSigned w32 z
+NumberFits (Fixed f) = FitsSigned w64 f.0
+
+body_short : (kind : ℕ) (body : List ℕ) (most : ℕ) → length (framed kind body) ≤ most → length body ≤ most
+body_short kind body most h = omega (arith, framed-length kind body, h)
+
+urid_fits : (n : ℕ) → n < 2 ^ 32 → Fits 14 (plain (urid n))
+unfolding u32
+urid_fits n h = (h, omega arith)
+
+number_fits : (value : Number) → NumberFits value → Fits 14 (value_of value)
+unfolding i32 i64
+number_fits (Int z) h = (h, omega arith)
+number_fits (Fixed f) h = (h, omega arith)
+
+pub set_fits : (property : ℕ) (value : Number) → property < 2 ^ 32 → NumberFits value → Fits 15 (set_object property value)
+unfolding form_of
+set_fits property value small fits =
+    let short = body_short 9 (body_of (set_object property value)) 64 (set_short property value) in (
+      (omega arith, omega arith),
+      omega (arith, short),
+      (omega arith, (omega arith, omega arith), urid_fits property small, (omega arith, (omega arith, omega arith), number_fits value fits, tt)),
+    )
+
+pub get_fits : (property : ℕ) → property < 2 ^ 32 → Fits 15 (get_object property)
+unfolding form_of
+get_fits zero small = ((omega arith, omega arith), (let short = body_short 9 (body_of (get_object zero)) 64 (get_short zero) in omega (arith, short)), tt)
+get_fits (suc n) small = (
+  (omega arith, omega arith),
+  (let short = body_short 9 (body_of (get_object (suc n))) 64 (get_short (suc n)) in omega (arith, short)),
+  (omega arith, (omega arith, omega arith), urid_fits (suc n) small, tt),
+)

@@ -1,12 +1,15 @@
-ghost use Rattle.std.specs.Prelude.{◌≡◌, ◌≤◌, Some};
+ghost use Rattle.std.specs.Prelude.{◌≡◌, ◌≤◌, Some, IfSome, FitsSigned};
+ghost use Rattle.std.specs.Int.{w32, w64};
 ghost use Rattle.std.specs.Option.{option_map, option_map_or};
+ghost use Rattle.atom_core.specs.Fits.{Fits};
 ghost use Rattle.atom_core.specs.Spelling.{atom_of};
+ghost use Rattle.patch_control.specs.declared.value.Value.TheVariants as number;
 ghost use Rattle.patch_control.specs.Written.{get_object, set_object};
 ghost use Rattle.session_play.specs.Patch.{message_of};
 ghost use Rattle.urid_map.specs.Numbers.{number_of};
 
 use atom_forge::Forge;
-use lv_base::{NoMemory, Text};
+use lv_base::{Fixed, NoMemory, Text};
 use patch_control::{Value, write_get, write_set};
 use session_script::Deed;
 use std::alloc::Global;
@@ -31,22 +34,39 @@ impl MessageWriter {
     }
 
     /// The message that an action sends, a patch:Set or a patch:Get: its whole atom, header and body. It is `None` exactly for actions that
-    /// send none. A property without a number is written with the next one, which no URI has yet.
+    /// send none. A property without a number is written with the next one, which no URI has yet. A message may stand in a sequence.
     pub fn message_of(&mut self, urids: &Urids, deed: &Deed) -> Option<Parcel>
-        ensures { result ≡ option_map atom_of (message_of urids.now deed.now) }
+        ensures message { result ≡ option_map atom_of (message_of urids.now deed.now) }
+        ensures fits { IfSome (message_of urids.now deed.now) (Fits 15) }
     {
         let forge = &mut self.forge;
         match deed {
             Deed::PatchFixed { property, value } => {
-                set(forge, number(urids, property), &Value::Fixed(*value))
+                set(forge, number(urids, property), &fixed(value))
             }
             Deed::PatchInt { property, value } => {
-                set(forge, number(urids, property), &Value::Int(*value))
+                set(forge, number(urids, property), &int(value))
             }
             Deed::PatchGet { property } => get(forge, asked(urids, property)),
             _ => None,
         }
     }
+}
+
+/// A number in parts of 2^-24, as a value.
+fn fixed(value: &Fixed) -> Value
+    ensures value { result ≡ number.Fixed value.now }
+    ensures fits { FitsSigned w64 value.now.0 }
+{
+    Value::Fixed(Fixed(value.0))
+}
+
+/// A whole number, as a value.
+fn int(value: &i32) -> Value
+    ensures value { result ≡ number.Int value.now }
+    ensures fits { FitsSigned w32 value.now }
+{
+    Value::Int(*value)
 }
 
 /// The number of a property, which may be the next one.

@@ -16,12 +16,12 @@ returns-clause-events c =
     c.pop.ensures
     ∙ merged_is c.args.into.now.room c.args.lists.now c.requires.timed.0 c.merge_lists.new.into c.requires.timed.1
     (λ all hold falls.
-    c.merge_lists.ensures.events all hold falls ∙ ap (λ (f : Forged). with_events f (merged (left f) all)) c.begin.ensures)
+    c.merge_lists.ensures.events all hold falls ∙ ap (λ (f : Forged). with_events f (merged (left f) all)) c.begin_sequence.ensures)
 
 pub returns-clause-sequence : goal.returns-clause-sequence
 returns-clause-sequence c = λ frames are small.
     let whole = c.pop.ensures
     ∙ merged_is c.args.into.now.room c.args.lists.now frames c.merge_lists.new.into are
     (λ all hold falls.
-    c.merge_lists.ensures.events all hold falls ∙ ap (λ (f : Forged). with_events f (merged (left f) all)) c.begin.ensures) in
+    c.merge_lists.ensures.events all hold falls ∙ ap (λ (f : Forged). with_events f (merged (left f) all)) c.begin_sequence.ensures) in
     subst (IsSequence frames) (sym whole) (merged_sequence c.args.into.now.room c.args.lists.now frames are c.requires.room small)

@@ -1,4 +1,4 @@
-use Rattle.std.proofs.Common.{◌∙◌, ◌+◌, length, ap}
+use Rattle.std.proofs.Common.{◌∙◌, ◌+◌, ap}
 use Rattle.message_bytes.proofs.Alone.{number_is}
 use Rattle.message_bytes.proofs.writer.number.Goals as goal
 

@@ -2,7 +2,7 @@ use Rattle.std.proofs.Common.{subst}
 use Rattle.atom_forge.specs.declared.level.Holds.TheVariants.{Events}
 use Rattle.atom_forge.specs.Forged.{Puts, opening, with_container}
 use Rattle.event_signals.proofs.Sequenced.{begun_by}
-use Rattle.event_signals.proofs.merging.begin.Goals as goal
+use Rattle.event_signals.proofs.merging.begin_sequence.Goals as goal
 
 pub returns : goal.returns
 returns c =
