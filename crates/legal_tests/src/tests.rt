@@ -1,14 +1,16 @@
-ghost use Rattle.std.specs.Prelude.{◌≤◌, IfOk};
+ghost use Rattle.std.specs.Prelude.{◌≤◌, IfOk, OnOk};
 ghost use Rattle.record_terms.specs.Session.{IsSession};
+ghost use Rattle.judged_log.specs.Followed.{IsFollowed, entries_of};
 
-use judged_log::{JudgedLog, followed_is_lawful};
+use judged_log::{Halt, JudgedLog, followed_is_lawful};
 use lv_base::{Items, NoMemory};
 use record_law::{Shape, ShapeInst};
 use record_legal::{Illegal, legal};
 use std::alloc::Global;
 use std::process::Abort;
 use std::test::Fail;
-use step_record::{Record, read};
+use step_record::{Entry, Kind, Record, read};
+use told_entries::{mark_notice, mark_plain, mark_take};
 
 /// Three blocks of a plug-in that schedules a job in each, on one thread.
 const JOBS: &str = "lv2fx-record 1
@@ -237,5 +239,70 @@ fn a_log_takes_a_lawful_record(rt: HostRuntime) -> Result<(), Fail> {
     assert!(&rt; log.has_ended());
     assert_eq!(&rt; made.entries().len(), steps.entries().len());
     followed_is_lawful();
+    Ok(())
+}
+
+/// Marks an entry by its form: a take, one of a call or about a body, or one that carries nothing.
+fn mark_told(log: &mut JudgedLog, shape: &Shape, entry: Entry) -> Result<(), Halt>
+    requires session { IsSession shape.now }
+    requires followed { IsFollowed shape.now (entries_of log.old.log.items) log.old.follower }
+    ensures { OnOk result (IsFollowed shape.now (entries_of log.new.log.items) log.new.follower) }
+{
+    match entry.kind {
+        Kind::Take => mark_take::<(), ()>(log, shape, entry)?,
+        Kind::Begin | Kind::End | Kind::Send => log.mark(shape, entry)?,
+        _ => mark_plain::<(), ()>(log, shape, entry)?,
+    };
+    Ok(())
+}
+
+/// Whether a log takes all entries of a record, each by its form, up to its end.
+fn are_told(alloc: Global, shape: &Shape, steps: &Record) -> Result<bool, NoMemory>
+    requires { IsSession shape.now }
+{
+    let mut log = JudgedLog::new(alloc, shape)?;
+    for entry in steps.entries() {
+        if mark_told(&mut log, shape, *entry).is_err() {
+            return Ok(false);
+        }
+    }
+    Ok(log.has_ended())
+}
+
+#[test]
+fn entries_are_told_by_their_form(rt: HostRuntime) -> Result<(), Fail> {
+    let alloc = rt.alloc();
+    let shape = session(alloc, 3)?;
+    let steps = read(alloc, JOBS.as_bytes())?;
+    assert!(&rt; are_told(alloc, &shape, &steps)?);
+    Ok(())
+}
+
+/// Whether the first entry of a record, which begins a call, is astray as one of another form.
+fn is_begin_astray(alloc: Global, shape: &Shape, begin: Entry) -> Result<bool, NoMemory>
+    requires { IsSession shape.now }
+{
+    let mut log = JudgedLog::new(alloc, shape)?;
+    let take = mark_take::<(), ()>(&mut log, shape, begin);
+    let mut log = JudgedLog::new(alloc, shape)?;
+    let notice = mark_notice::<(), ()>(&mut log, shape, begin, false);
+    let mut log = JudgedLog::new(alloc, shape)?;
+    let plain = mark_plain::<(), ()>(&mut log, shape, begin);
+    Ok(
+        matches!(take, Err(Halt::Astray))
+            && matches!(notice, Err(Halt::Astray))
+            && matches!(plain, Err(Halt::Astray)),
+    )
+}
+
+#[test]
+fn a_call_is_no_entry_outside_of_calls(rt: HostRuntime) -> Result<(), Fail> {
+    let alloc = rt.alloc();
+    let shape = session(alloc, 3)?;
+    let steps = read(alloc, JOBS.as_bytes())?;
+    let Some(begin) = steps.entries().first() else {
+        return Err(Fail::new("no entries"));
+    };
+    assert!(&rt; is_begin_astray(alloc, &shape, *begin)?);
     Ok(())
 }

@@ -1,1 +1,3 @@
+pub mod Sent
 pub mod Three
+pub mod Two

@@ -1,1 +1,2 @@
 pub mod Amplifier
+pub mod Echo

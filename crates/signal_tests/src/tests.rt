@@ -1,2 +1,6 @@
 mod blocks;
+mod desks;
+mod echoes;
+mod messages;
+mod outcomes;
 mod setups;

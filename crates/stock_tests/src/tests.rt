@@ -1,5 +1,7 @@
 mod bench;
 mod called;
 mod declared;
+mod held;
 mod played;
 mod refused;
+mod told;

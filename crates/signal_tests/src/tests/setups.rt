@@ -22,10 +22,12 @@ pub fn setup(alloc: Global, script: &[u8]) -> Result<Setup, Fail>
     planned(alloc, session, decls)
 }
 
-fn planned(alloc: Global, session: Session, decls: Items<Decl>) -> Result<Setup, Fail>
+/// A session with these declarations, if there is a plan of it.
+pub fn planned(alloc: Global, session: Session, decls: Items<Decl>) -> Result<Setup, Fail>
     requires session { IsValid session }
     requires decls { All decl.IsValid decls }
-    ensures { IfOk result IsReady }
+    ensures ready { IfOk result IsReady }
+    ensures same { IfOk result (λ setup. setup.decls ≡ decls) }
 {
     if decls.len() != session.insts.len() {
         return Err(Fail::from("no declarations"));
@@ -39,7 +41,7 @@ fn planned(alloc: Global, session: Session, decls: Items<Decl>) -> Result<Setup,
     })
 }
 
-fn session(alloc: Global, script: &[u8]) -> Result<Session, Fail>
+pub fn session(alloc: Global, script: &[u8]) -> Result<Session, Fail>
     ensures { IfOk result IsValid }
 {
     if script.len() >= 4_294_967_296 {

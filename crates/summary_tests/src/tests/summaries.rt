@@ -1,6 +1,7 @@
 //! Summaries worked out by hand.
 
 use super::setups::setup;
+use call_tally::note_call;
 use graph_order::Setup;
 use lv_base::{Bytes, Fixed, Items, NoMemory};
 use record_terms::Message;
@@ -176,6 +177,28 @@ fn are_actions_told(alloc: Global) -> Result<bool, Fail> {
     tally.failed(0);
     let report = actions_report(alloc)?;
     Ok(is_told(alloc, "play", &setup, &tally, &report, ACTIONS_SUMMARY)?)
+}
+
+/// A run that sends a job and finds no room for another: of one instance 1 run, 1 job and 1 refused.
+fn is_call_counted(alloc: Global) -> Result<bool, Fail> {
+    let setup = setup(alloc, BURST)?;
+    let mut tally = Tally::new(alloc, &setup)?;
+    let audio = Actor::Audio;
+    let entries = [
+        (7, Entry::begin(audio, Call::Run, 0)),
+        (8, Entry::send(audio, Ring::Jobs(0))),
+        (9, Entry::full(audio, Ring::Jobs(0))),
+        (10, Entry::end(audio, Call::Run, 0)),
+    ];
+    note_call(&mut tally, &entries, Message::Nothing);
+    let counts = tally.of(0);
+    Ok(counts.runs == 1 && counts.jobs == 1 && counts.refused == 1 && counts.worked == 0)
+}
+
+#[test]
+fn a_call_is_counted(rt: HostRuntime) -> Result<(), Fail> {
+    assert!(rt; is_call_counted(rt.alloc())?);
+    Ok(())
 }
 
 #[test]
